@@ -1,0 +1,7 @@
+pub mod Shape
+pub mod Steps
+pub mod Paging
+pub mod Writes
+pub mod Round
+pub mod Local
+pub mod Earlier

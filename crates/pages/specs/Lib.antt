@@ -1,0 +1,7 @@
+pub mod Few
+pub mod Shape
+pub mod Faults
+pub mod Reading
+pub mod Writing
+pub mod Answers
+pub mod Laws
