@@ -26,7 +26,7 @@ use Rattle.pages.specs.declared.page_reader.PageLines.{PageLines}
 use Rattle.pages.specs.Shape.{Cells, Lines}
 use Rattle.pages.specs.Faults.{with-number}
 use Rattle.pages.specs.Reading.{onward, read-count, lines-due, read-line, read-lines, page-end, read-page, before-lines, line-numbered}
-use Rattle.pages.specs.Answers.{line-of, LineRead, ahead, next-of, Passed}
+use Rattle.pages.specs.Answers.{line-of, LineRead, ahead, next-of, BeforeFirst, Passed}
 use Rattle.pages.proofs.Steps.{one-due, none-due, counts}
 
 -- the count of a page opens it, or refuses it
@@ -38,7 +38,7 @@ pub some-lines : (bytes : List ℕ) (count : ℕ) → read-count 40 bytes 0 ≡ 
 some-lines bytes count e = ap (λ r. onward r page.Count Ok) e
 
 -- which is at most 40
-pub due-count : (bytes : List ℕ) (count : ℕ) → lines-due bytes ≡ Ok count → count ≤ 40
+due-count : (bytes : List ℕ) (count : ℕ) → lines-due bytes ≡ Ok count → count ≤ 40
 due-count bytes count e = go (read-count 40 bytes 0) refl e where
   go : (r : Result ℕ CountFault) → read-count 40 bytes 0 ≡ r → onward r page.Count Ok ≡ Ok count → count ≤ 40
   go (Ok n) is e = let same : n ≡ count = cc in omega (arith, counts 40 bytes 0 n is .high)
@@ -132,39 +132,57 @@ nth-push-other [] x (suc i) ne = refl
 nth-push-other (y ∷ xs) x zero ne = refl
 nth-push-other (y ∷ xs) x (suc i) ne = nth-push-other xs x i (λ e. ne (ap suc e))
 
--- some lines are passed, the page's reading goes on behind them, and of them the one wanted is kept
+-- these lines are passed, and the page's reading goes on behind them
+pub record Passing (bytes : List ℕ) (lines : Lines) (p : PageLines) : Type 0 where
+  pub at : p .number ≡ length lines
+  pub few : p .count ≤ 40
+  pub whole : read-page bytes ≡ after-lines lines (ahead p)
+
+pub pass-none : (bytes : List ℕ) (p : PageLines) → BeforeFirst bytes p → Passing bytes [] p
+pass-none bytes p h = record { at = h .none; few = due-count bytes (p .count) (h .lines); whole = h .whole ∙ sym (after-none (ahead p)) }
+
+module _ {bytes : List ℕ} {lines : Lines} {p : PageLines} (h : Passing bytes lines p) where
+  pub pass-more : (line : Line) (q : PageLines) → Passed line p q → ahead p ≡ before-lines (line-of line) (ahead q) → Passing bytes (lines ++ line-of line ∷ []) q
+  pass-more line q step e =
+      record {
+        at = step .one ∙ ap (λ n. n + 1) (h .at) ∙ sym (length-push lines (line-of line));
+        few = omega (arith, step .lines, h .few);
+        whole = h .whole ∙ ap (after-lines lines) e ∙ after-push lines (line-of line) (ahead q);
+      }
+
+  -- where a line is met, fewer than 40 are passed
+  pub pass-below : (line : Line) (q : PageLines) → Passed line p q → length lines < 40
+  pass-below line q step = omega (arith, step .due, h .at, h .few)
+
+  pub pass-bad : {f : PageFault} → ahead p ≡ Err f → read-page bytes ≡ Err f
+  pass-bad e = h .whole ∙ ap (after-lines lines) e
+
+  pub pass-all : ahead p ≡ Ok [] → read-page bytes ≡ Ok lines
+  pass-all e = h .whole ∙ ap (after-lines lines) e ∙ ap Ok (append-nil lines)
+
+-- some lines are passed, so many, and of them the one wanted is kept
 pub record Keeping (bytes : List ℕ) (wanted number : ℕ) (p : PageLines) (found : Option Line) : Type 0 where
   pub lines : Lines
   pub long : length lines ≡ number
-  pub at : p .number ≡ number
-  pub few : p .count ≤ 40
-  pub whole : read-page bytes ≡ after-lines lines (ahead p)
+  pub passing : Passing bytes lines p
   pub kept : mapped line-of found ≡ nth lines wanted
 
-pub keep-none : (bytes : List ℕ) (wanted : ℕ) (p : PageLines) → p .count ≤ 40 → p .number ≡ 0 → read-page bytes ≡ ahead p → Keeping bytes wanted 0 p None
-keep-none bytes wanted p few at e = record { lines = []; long = refl; at = at; few = few; whole = e ∙ sym (after-none (ahead p)); kept = refl }
+pub keep-more : {bytes : List ℕ} {wanted number : ℕ} {p : PageLines} {found : Option Line} → Keeping bytes wanted number p found
+    → (line : Line) (q : PageLines) (then : Option Line) → Passed line p q → ahead p ≡ before-lines (line-of line) (ahead q)
+    → (number ≡ wanted → then ≡ Some line) → ((number ≡ wanted → ⊥) → then ≡ found) → Keeping bytes wanted (number + 1) q then
+keep-more {wanted = wanted} {number = number} h line q then step e this other =
+    let l = line-of line in
+    let lines = h .lines in
+    let long = h .long in
+    record {
+      lines = lines ++ l ∷ [];
+      long = length-push lines l ∙ ap (λ n. n + 1) long;
+      passing = pass-more (h .passing) line q step e;
+      kept =
+          ⊎-elim (λ is. ap (mapped line-of) (this is) ∙ sym (ap (nth (lines ++ l ∷ [])) (sym (long ∙ is)) ∙ nth-push lines l))
+          (λ ne. ap (mapped line-of) (other ne) ∙ h .kept ∙ sym (nth-push-other lines l wanted (λ is. ne (sym long ∙ is)))) (cases-eq number wanted);
+    }
 
-module _ {bytes : List ℕ} {wanted number : ℕ} {p : PageLines} {found : Option Line} (h : Keeping bytes wanted number p found) where
-  pub keep-more : (line : Line) (q : PageLines) (then : Option Line) → Passed line p q → ahead p ≡ before-lines (line-of line) (ahead q)
-      → (number ≡ wanted → then ≡ Some line) → ((number ≡ wanted → ⊥) → then ≡ found) → Keeping bytes wanted (number + 1) q then
-  keep-more line q then step e this other =
-      let l = line-of line in
-      let long = h .long in
-      record {
-        lines = h .lines ++ l ∷ [];
-        long = length-push (h .lines) l ∙ ap (λ n. n + 1) long;
-        at = step .one ∙ ap (λ n. n + 1) (h .at);
-        few = omega (arith, step .lines, h .few);
-        whole = h .whole ∙ ap (after-lines (h .lines)) e ∙ after-push (h .lines) l (ahead q);
-        kept =
-            ⊎-elim (λ is. ap (mapped line-of) (this is) ∙ sym (ap (nth (h .lines ++ l ∷ [])) (sym (long ∙ is)) ∙ nth-push (h .lines) l))
-            (λ ne. ap (mapped line-of) (other ne) ∙ h .kept ∙ sym (nth-push-other (h .lines) l wanted (λ is. ne (sym long ∙ is)))) (cases-eq number wanted);
-      }
-
-  pub keep-bad : {f : PageFault} → ahead p ≡ Err f → Err f ≡ read-page bytes
-  keep-bad e = sym (h .whole ∙ ap (after-lines (h .lines)) e)
-
-  pub keep-all : ahead p ≡ Ok [] → Ok (mapped line-of found) ≡ line-numbered wanted (read-page bytes)
-  keep-all e =
-      ap Ok (h .kept)
-      ∙ sym (ap (line-numbered wanted) (h .whole ∙ ap (after-lines (h .lines)) e ∙ ap Ok (append-nil (h .lines))))
+pub keep-all : {bytes : List ℕ} {wanted number : ℕ} {p : PageLines} {found : Option Line} → Keeping bytes wanted number p found → ahead p ≡ Ok []
+    → Ok (mapped line-of found) ≡ line-numbered wanted (read-page bytes)
+keep-all {wanted = wanted} h e = ap Ok (h .kept) ∙ sym (ap (line-numbered wanted) (pass-all (h .passing) e))

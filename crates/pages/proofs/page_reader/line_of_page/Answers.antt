@@ -1,4 +1,4 @@
-use mathlib.Core.Path.{_≡_, sym, ap, subst, _∙_}
+use mathlib.Core.Path.{_≡_, refl, sym, ap, subst, _∙_}
 use mathlib.Core.List.{List, []}
 use Prim.Native.Nat.{ℕ, _+_, _<_}
 use native.Mathlib.Omega.{arith}
@@ -12,8 +12,7 @@ use Rattle.pages.specs.declared.lines.Line.{Line}
 use Rattle.pages.specs.Reading.{line-numbered, read-page, before-lines}
 use Rattle.pages.specs.Answers.{line-of, ahead, found-line, NextLine, Ahead, Passed}
 use Rattle.pages.specs.Laws.{Accepted, FirstWrong}
-use Rattle.pages.proofs.Steps.{counts}
-use Rattle.pages.proofs.Paging.{Keeping, keep-none, keep-more, keep-bad, keep-all, due-count}
+use Rattle.pages.proofs.Paging.{pass-none, pass-below, pass-bad, keep-more, keep-all}
 use Rattle.pages.proofs.Round.{Octets, accepted-exactly}
 use Rattle.pages.proofs.Earlier.{first-wrong}
 use Rattle.pages.proofs.page_reader.line_of_page.Needs as need
@@ -36,15 +35,14 @@ returns-in-Break-lines c =
 
 pub loop-line-holds : need.loop-line-holds
 loop-line-holds c =
-    let told = c .in-Continue-lines .ensures tt in
-    keep-none (c .args .bytes .now) (c .args .wanted) (c .in-Continue-lines .lines) (due-count (c .args .bytes .now) (c .in-Continue-lines .lines .count) (told .lines)) (told .none) (told .whole)
+    record { lines = []; long = refl; passing = pass-none (c .args .bytes .now) (c .in-Continue-lines .lines) (c .in-Continue-lines .ensures tt); kept = refl }
 
 -- what is known where a line was met
 passing : (c : need.Joined-number-wanted) → Passed (c .in-Some .line) (c .loop-line .lines) (c .next-line .last .self)
 passing c = subst (λ o. NextLine (Ok o) (c .loop-line .lines) (c .next-line .last .self)) (c .in-Some .is) (c .in-Continue-line .ensures tt .answer)
 
 pub add-number : need.add-number
-add-number c = let p = passing c in omega (arith, p .due, c .loop-line .inv .at, c .loop-line .inv .few)
+add-number c = omega (arith, c .loop-line .inv .long, pass-below (c .loop-line .inv .passing) (c .in-Some .line) (c .next-line .last .self) (passing c))
 
 pub loop-line-again : need.loop-line-again
 loop-line-again c =
@@ -59,7 +57,7 @@ loop-line-less c = let p = passing c in omega (arith, p .due, p .one, p .lines)
 pub returns-in-Break-line : need.returns-in-Break-line
 returns-in-Break-line c =
     let up = err-from-errBy (c .from-residual-in-Break-line .result) (c .from-residual-in-Break-line .ensures .1) in
-    at-fault (c .from-residual-in-Break-line .result) (c .args .bytes .now) (c .args .wanted) (λ i. c .typed .bytes i .fits) (up .1 ∙ ap Err (up .2)) (keep-bad (c .loop-line .inv) (c .in-Break-line .ensures tt .ahead))
+    at-fault (c .from-residual-in-Break-line .result) (c .args .bytes .now) (c .args .wanted) (λ i. c .typed .bytes i .fits) (up .1 ∙ ap Err (up .2)) (sym (pass-bad (c .loop-line .inv .passing) (c .in-Break-line .ensures tt .ahead)))
 
 pub returns : need.returns
 returns c =
