@@ -51,5 +51,5 @@ rowed-more {number = number} h line q row more step e own is =
           ∙ ap (λ r. line-rows 0 lines ++ r) (own ∙ ap (λ n. line-row n l) (sym (h .long) ∙ same (length lines)))
           ∙ sym (rows-push 0 lines l);
     } where
-  same : (n : ℕ) → n ≡ 0 + n
-  same n = omega arith
+      same : (n : ℕ) → n ≡ 0 + n
+      same n = omega arith

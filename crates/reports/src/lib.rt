@@ -1,7 +1,7 @@
 // What is said of a page: how much each line holds, or what is wrong and where.
-mod words;
 mod report;
+mod words;
 
-pub use words::explain;
 pub use report::Report;
 pub use report::report_page;
+pub use words::explain;

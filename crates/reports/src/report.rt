@@ -59,7 +59,10 @@ fn describe_line(heap: Global, number: usize, line: &Line) -> Result<String, All
 {
     let cells = line.cells().len();
     let alternatives = count_alternatives(line);
-    format!(heap, "line {number}: cells {cells}, alternatives {alternatives}\n")
+    format!(
+        heap,
+        "line {number}: cells {cells}, alternatives {alternatives}\n"
+    )
 }
 
 // The count of the lines, and a row for each.
@@ -94,10 +97,16 @@ pub fn report_page(heap: Global, page: &[u8]) -> Result<Report, AllocError>
     ensures accepted { λ r. ⌜ made r (λ s. s .accepted ≡ isOk (read-page (now (page .entry)))) ⌝ }
 {
     match describe(heap, page) {
-        Ok(text) => Ok(Report { accepted: true, text }),
+        Ok(text) => Ok(Report {
+            accepted: true,
+            text,
+        }),
         Err(Trouble::Page(fault)) => {
             let text = describe_refusal(heap, page, fault)?;
-            Ok(Report { accepted: false, text })
+            Ok(Report {
+                accepted: false,
+                text,
+            })
         }
         Err(Trouble::Memory(error)) => Err(error),
     }

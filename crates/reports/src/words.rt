@@ -8,10 +8,10 @@ use pages::AlternativeFault;
 use pages::CellFault;
 use pages::CountFault;
 use pages::LineFault;
-use pages::PageFault;
 use pages::MOST_ALTERNATIVES;
 use pages::MOST_CELLS;
 use pages::MOST_LINES;
+use pages::PageFault;
 use std::alloc::AllocError;
 use std::alloc::Global;
 
@@ -109,7 +109,13 @@ fn explain_cell(heap: Global, page: &[u8], fault: CellFault) -> Result<String, A
     ensures { λ r. ⌜ made r (λ s. string-bytes s ≡ cell-words (now (page .entry)) fault) ⌝ }
 {
     match fault {
-        CellFault::Count(fault) => explain_count(heap, page, "alternatives", MOST_ALTERNATIVES, fault),
+        CellFault::Count(fault) => explain_count(
+            heap,
+            page,
+            "alternatives",
+            MOST_ALTERNATIVES,
+            fault,
+        ),
         CellFault::Alternative(fault) => explain_alternative(heap, page, fault),
     }
 }
