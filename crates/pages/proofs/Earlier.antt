@@ -6,7 +6,7 @@ use mathlib.Core.Logic.{_⊎_, inl, inr, ⊎-elim}
 use Prim.Native.Nat.{ℕ, zero, suc, _+_, _-_, _*_, _/_, _%_, _<_, _≤_}
 use native.Mathlib.Omega.{arith}
 use lib.Dec.{leb, ltb, eqb}
-use lib.ListN.{length, getD, take, drop, length-drop, length-append}
+use lib.ListN.{length, getD, take, drop, length-drop}
 use Rattle.std.specs.Joined.{joined}
 use Rattle.std.specs.shelf.Lists.{All}
 use Rattle.std.specs.declared.result.Result.{Result}
@@ -15,7 +15,6 @@ use Rattle.std.proofs.shelf.Lists.{length-take, length-take-le, take-append-le,
 use Rattle.std.proofs.shelf.Tests.{leb-true, leb-false, ltb-false, eqb-true, ne-eqb, or-parts, or-from, or-cases, cond-true, cond-false, lt-ltb, le-ltb, lt-leb, cases-lt}
 use Rattle.pages.specs.declared.lines.Alternative.{Alternative}
 use Rattle.pages.specs.declared.faults.CountFault.{CountFault}
-use Rattle.pages.specs.declared.faults.CountFault.the-variants as count
 use Rattle.pages.specs.declared.faults.AlternativeFault.{AlternativeFault}
 use Rattle.pages.specs.declared.faults.AlternativeFault.the-variants as alternative
 use Rattle.pages.specs.declared.faults.CellFault.{CellFault}
@@ -25,15 +24,15 @@ use Rattle.pages.specs.declared.faults.LineFault.the-variants as line
 use Rattle.pages.specs.declared.faults.PageFault.{PageFault}
 use Rattle.pages.specs.declared.faults.PageFault.the-variants as page
 use Rattle.pages.specs.declared.faults.Returned.{Returned}
-use Rattle.pages.specs.Shape.{Alternatives, Cells, Lines, seen, well-formed-page}
+use Rattle.pages.specs.Shape.{Alternatives, Cells, Lines, seen}
 use Rattle.pages.specs.Faults.{count-returns, alternative-returns, cell-returns, line-returns, page-returns}
-use Rattle.pages.specs.Reading.{last-penalty, symbol-at, penalty-at, onward, read-alternative, read-count, read-alternatives, read-cell, read-cells, read-line, read-lines, page-end, read-page, before-lines}
+use Rattle.pages.specs.Reading.{last-penalty, symbol-at, penalty-at, onward, read-alternative, read-count, read-alternatives, read-cell, read-cells, read-line, read-lines, read-page, before-lines}
 use Rattle.pages.specs.Writing.{alternative-bytes, cell-bytes, line-bytes, page-bytes}
 use Rattle.pages.specs.Laws.{Stands, Begins, alternative-judged, cell-judged, line-judged, page-judged, HalfPenaltyTooLow, FirstWrong}
 use Rattle.pages.proofs.Shape.{InRange, WellFormedCell, WellFormedLine, WellFormedPage, page-parts, page-from}
-use Rattle.pages.proofs.Steps.{Counts, counts}
-use Rattle.pages.proofs.Round.{Octets, Fair, fair-cell, Reads, reads, alternative-stands, fair-one, got-cell, line-read, last-push, page-back}
-use Rattle.pages.proofs.Local.{shorter, still-read, alternative-local, count-local, cell-local, line-local, jC, sC, jL, sL, bad-before, Refused, page-refused}
+use Rattle.pages.proofs.Steps.{counts}
+use Rattle.pages.proofs.Round.{Octets, Fair, fair-cell, reads, alternative-stands, fair-one, got-cell, line-read, last-push, page-back}
+use Rattle.pages.proofs.Local.{shorter, still-read, alternative-local, count-local, cell-local, line-local, jC, jL, bad-before, page-refused}
 
 -- a refused test or reading
 split : {A F : Type 0} (t : Bool) (f : F) (r : Result A F) {g : F} → cond t (Err f) r ≡ Err g → ((t ≡ true) × (f ≡ g)) ⊎ ((t ≡ false) × (r ≡ Err g))
@@ -377,11 +376,6 @@ cell-upto (cell.Alternative f) = alternative-upto f
 line-upto : (f : LineFault) → line-returns f .place + 1 ≤ line-judged f
 line-upto (line.Count f) = omega arith
 line-upto (line.Cell f) = cell-upto (f .fault)
-
-page-upto : (f : PageFault) → page-returns f .place + 1 ≤ page-judged f
-page-upto (page.Count f) = omega arith
-page-upto (page.Line f) = line-upto (f .fault)
-page-upto (page.Excess place) = omega arith
 
 cell-size : (b : List ℕ) (at : ℕ) (f : CellFault) → at ≤ length b → read-cell b at ≡ Err f → cell-returns f .place ≤ length b
 cell-size b at f le e =

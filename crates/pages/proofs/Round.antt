@@ -1,11 +1,11 @@
 -- Reading and writing undo each other. Assumes nothing.
 use mathlib.Core.Path.{_≡_, refl, sym, ap, subst, _∙_}
-use mathlib.Core.Bool.{Bool, true, false, cond, _||_}
+use mathlib.Core.Bool.{true, false, _||_}
 use mathlib.Core.List.{List, [], _∷_, _++_, append-assoc, append-nil}
 use Prim.Native.Nat.{ℕ, zero, suc, _+_, _-_, _*_, _/_, _%_, _<_, _≤_}
 use native.Mathlib.Omega.{arith}
 use native.Mathlib.Nat.{add-zero}
-use lib.Dec.{leb, ltb, eqb}
+use lib.Dec.{leb, ltb}
 use lib.ListN.{length, getD, take, drop, length-drop, length-append}
 use Rattle.std.specs.Joined.{joined}
 use Rattle.std.specs.shelf.Lists.{All}
@@ -22,7 +22,7 @@ use Rattle.pages.specs.Shape.{Alternatives, Cells, Lines, seen, well-formed-pa
 use Rattle.pages.specs.Reading.{last-penalty, symbol-at, penalty-at, onward, read-alternative, read-count, read-alternatives, read-cell, read-cells, read-line, read-lines, read-page, before-lines}
 use Rattle.pages.specs.Writing.{alternative-bytes, cell-bytes, line-bytes, page-bytes}
 use Rattle.pages.specs.Laws.{Stands, Accepted}
-use Rattle.pages.proofs.Shape.{Apart, Rises, InRange, WellFormedCell, WellFormedLine, WellFormedPage, page-parts, page-from}
+use Rattle.pages.proofs.Shape.{Apart, Rises, InRange, WellFormedCell, WellFormedLine, page-parts, page-from}
 use Rattle.pages.proofs.Steps.{passed, Counts, counts}
 
 abbrev pub Octets : List ℕ → Type 0

@@ -37,7 +37,7 @@ pub counts : (most : ℕ) (bytes : List ℕ) (at n : ℕ) → read-count most by
 counts most bytes at n e =
     let p1 = passed (leb (length bytes) at) _ _ e in
     let p2 = passed (ltb (getD bytes at 0) 1 || ltb most (getD bytes at 0)) _ _ (p1 .1) in
-    let both = or-parts _ _ (p2 .0) in
+    let both = or-parts (ltb (getD bytes at 0) 1) (ltb most (getD bytes at 0)) (p2 .0) in
     let end = p2 .1 in
     let is : getD bytes at 0 ≡ n = cc in
     record {

@@ -1,13 +1,12 @@
 -- What the bytes of specs/Writing.antt come to, one step at a time. Assumes nothing.
 use mathlib.Core.Path.{_≡_, refl, sym, ap, subst, _∙_}
-use mathlib.Core.List.{List, [], _∷_, _++_, map}
-use Prim.Native.Nat.{ℕ, _+_, _-_, _*_, _/_, _%_, _<_, _≤_, suc, zero}
+use mathlib.Core.List.{List, [], _∷_, _++_}
+use Prim.Native.Nat.{ℕ, _+_, _-_, _*_, _/_, _%_, _<_, _≤_}
 use native.Mathlib.Omega.{arith}
 use lib.ListN.{length, getD, take, drop, set, length-append, length-drop}
 use Rattle.std.specs.Joined.{joined}
-use Rattle.std.specs.shelf.Lists.{All}
 use native.Mathlib.Nat.{add-zero}
-use Rattle.std.proofs.shelf.Lists.{length-push, drop-more, drop-all, getD-map, length-map, getD-drop, take-more, take-more-set, drop-set-lt, length-set, take-append-drop, take-all}
+use Rattle.std.proofs.shelf.Lists.{drop-more, drop-all, getD-map, length-map, getD-drop, take-more, take-more-set, drop-set-lt, length-set, take-append-drop, take-all}
 use Rattle.pages.specs.declared.lines.Alternative.{Alternative}
 use Rattle.pages.specs.declared.lines.Cell.{Cell}
 use Rattle.pages.specs.declared.lines.Line.{Line}
@@ -19,11 +18,6 @@ use Rattle.pages.specs.Writing.{alternative-bytes, cell-bytes, line-bytes}
 pub length-alternatives : (c : Alternatives) → length (joined alternative-bytes c) ≡ 3 * length c
 length-alternatives [] = refl
 length-alternatives (a ∷ c) = omega (arith, length-alternatives c)
-
-pub at-all : {X : Type 0} (P : X → Type 0) (xs : List X) (i : ℕ) (d : X) → i < length xs → All P xs → P (getD xs i d)
-at-all P [] i d h all = absurd (omega arith)
-at-all P (x ∷ xs) zero d h all = all .0
-at-all P (x ∷ xs) (suc i) d h all = at-all P xs i d (omega arith) (all .1)
 
 -- the cell in hand, as the line has it
 pub record Held (line : Line) (i : ℕ) (alternatives : Alternatives) : Type 0 where
@@ -47,9 +41,6 @@ as-many line items same = length-map (few-items (line .cells)) cell-of ∙ sym (
 pub record Measured (cells : Cells) (i size : ℕ) : Type 0 where
   pub whole : size + length (joined cell-bytes (drop i cells)) ≡ length (line-bytes cells)
   pub small : size ≤ 1 + 25 * i
-
-pub measured-none : (cells : Cells) → Measured cells 0 1
-measured-none cells = record { whole = omega arith; small = omega arith }
 
 pub measured-more : {cells : Cells} {i size : ℕ} (c : Alternatives) → Measured cells i size → i < length cells → getD cells i [] ≡ c → length c ≤ 8
     → Measured cells (i + 1) (size + (1 + 3 * length c))

@@ -16,12 +16,11 @@ use Rattle.pages.specs.declared.faults.LineFault.{LineFault}
 use Rattle.pages.specs.declared.faults.LineFault.the-variants as line
 use Rattle.pages.specs.declared.faults.PageFault.{PageFault}
 use Rattle.pages.specs.declared.faults.PageFault.the-variants as page
-use Rattle.pages.specs.declared.faults.Returned.{Returned}
 use Rattle.pages.specs.declared.writer.PlaceFault.{PlaceFault}
 use Rattle.pages.specs.Shape.{Cells, Lines, well-formed-page}
 use Rattle.pages.specs.Faults.{count-returns, page-returns}
 use Rattle.pages.specs.Reading.{read-page}
-use Rattle.pages.specs.Writing.{line-bytes, page-bytes}
+use Rattle.pages.specs.Writing.{page-bytes}
 
 -- some bytes stand at a place, and `next` is the place behind them
 pub record Stands (bytes : List ℕ) (at : ℕ) (part : List ℕ) (next : ℕ) : Type 0 where

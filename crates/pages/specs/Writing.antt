@@ -23,6 +23,10 @@ line-bytes l = length l ∷ joined cell-bytes l
 abbrev pub page-bytes : Lines → List ℕ
 page-bytes p = length p ∷ joined line-bytes p
 
+-- what is returned for a place too short: 10 Place
+abbrev pub place-number : ℕ
+place-number = 10
+
 -- the bytes stand at the place's start, and the rest of the place is left; a place too short is left whole
 abbrev pub Written : Result ℕ PlaceFault → List ℕ → List ℕ → List ℕ → Type 0
 Written (Ok n) bytes was is = (n ≡ length bytes) × (n ≤ length was) × (is ≡ bytes ++ drop n was)

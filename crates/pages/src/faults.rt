@@ -57,19 +57,21 @@ pub struct Returned {
     pub place: usize,
 }
 
+impl Returned {
+    fn new(number: u8, place: usize) -> Returned
+        ensures { λ r. ⌜ r ≡ record { number = number; place = place } ⌝ }
+    {
+        Returned { number, place }
+    }
+}
+
 impl CountFault {
     pub fn returned(&self) -> Returned
         ensures { λ r. ⌜ r ≡ count-returns (now (self .entry)) ⌝ }
     {
         match self {
-            CountFault::Short(place) => Returned {
-                number: 1,
-                place: *place,
-            },
-            CountFault::Count(place) => Returned {
-                number: 2,
-                place: *place,
-            },
+            CountFault::Short(place) => Returned::new(1, *place),
+            CountFault::Count(place) => Returned::new(2, *place),
         }
     }
 }
@@ -79,22 +81,10 @@ impl AlternativeFault {
         ensures { λ r. ⌜ r ≡ alternative-returns (now (self .entry)) ⌝ }
     {
         match self {
-            AlternativeFault::Short(place) => Returned {
-                number: 1,
-                place: *place,
-            },
-            AlternativeFault::Symbol(place) => Returned {
-                number: 3,
-                place: *place,
-            },
-            AlternativeFault::Twice(place) => Returned {
-                number: 4,
-                place: *place,
-            },
-            AlternativeFault::Order(place) => Returned {
-                number: 5,
-                place: *place,
-            },
+            AlternativeFault::Short(place) => Returned::new(1, *place),
+            AlternativeFault::Symbol(place) => Returned::new(3, *place),
+            AlternativeFault::Twice(place) => Returned::new(4, *place),
+            AlternativeFault::Order(place) => Returned::new(5, *place),
         }
     }
 }
@@ -138,10 +128,7 @@ impl PageFault {
         match self {
             PageFault::Count(fault) => fault.returned(),
             PageFault::Line(line) => line.fault.returned(),
-            PageFault::Excess(place) => Returned {
-                number: 6,
-                place: *place,
-            },
+            PageFault::Excess(place) => Returned::new(6, *place),
         }
     }
 

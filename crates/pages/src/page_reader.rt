@@ -5,7 +5,6 @@ ghost use Rattle.pages.specs.Reading.{read-page, line-numbered};
 ghost use Rattle.pages.specs.Answers.{Opened, NextLine, Ahead, found-line};
 ghost use Rattle.pages.specs.Laws.{Accepted, FirstWrong};
 ghost use Rattle.std.specs.Vec.{refused};
-use crate::faults::LineFault;
 use crate::faults::Numbered;
 use crate::faults::PageFault;
 use crate::faults::PageFaultFromCount;

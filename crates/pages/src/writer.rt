@@ -3,7 +3,7 @@ ghost use mathlib.Core.Path.{_≡_};
 ghost use Prim.Native.Nat.{_+_, _/_, _%_, _≤_};
 ghost use lib.ListN.{length, set};
 ghost use Rattle.pages.specs.Answers.{line-of};
-ghost use Rattle.pages.specs.Writing.{line-bytes, Written};
+ghost use Rattle.pages.specs.Writing.{place-number, line-bytes, Written};
 ghost use Rattle.pages.specs.Laws.{ReadsBack};
 use crate::lines::Alternative;
 use crate::lines::Line;
@@ -13,11 +13,13 @@ use crate::lines::Line;
 pub struct PlaceFault;
 
 impl PlaceFault {
-    // The number that is returned: 10 Place.
+    // The number that is returned for a place too short.
+    const NUMBER: u8 = 10;
+
     pub fn number(&self) -> u8
-        ensures { λ r. ⌜ r ≡ 10 ⌝ }
+        ensures { λ r. ⌜ r ≡ place-number ⌝ }
     {
-        10
+        Self::NUMBER
     }
 }
 

@@ -1,8 +1,5 @@
-use mathlib.Core.Path.{_≡_, sym, ap}
-use mathlib.Core.List.{[]}
-use Prim.Native.Nat.{_<_}
+use mathlib.Core.Path.{sym, ap}
 use native.Mathlib.Omega.{arith}
-use lib.ListN.{length}
 use Rattle.std.proofs.shelf.Lists.{nil-from-length}
 use borrow.Author.Tests.{ltb-true, ltb-false}
 use Rattle.pages.specs.Reading.{last-penalty}

@@ -1,5 +1,5 @@
 use mathlib.Core.Path.{_≡_, refl, sym, ap, subst, _∙_}
-use mathlib.Core.List.{List, [], _∷_, _++_, map}
+use mathlib.Core.List.{List, map}
 use Prim.Native.Nat.{ℕ, _+_, _-_, _<_}
 use native.Mathlib.Omega.{arith}
 use lib.Dec.{lit<}
@@ -17,7 +17,7 @@ use Rattle.pages.specs.Writing.{line-bytes}
 use Rattle.std.specs.Vec.{made}
 use Rattle.pages.specs.Few.{few-items}
 use Rattle.pages.specs.Reading.{read-alternative, read-line}
-use Rattle.pages.proofs.Steps.{Between, Within, between-at, within-at, opened, no-line, enter, bad-count, ended, more, bad-alternative, leave, left-with, not-both, counts}
+use Rattle.pages.proofs.Steps.{between-at, within-at, opened, no-line, enter, bad-count, ended, more, bad-alternative, leave, left-with, not-both, counts}
 use Rattle.pages.proofs.Shape.{WellFormedLine, line-from}
 use Rattle.pages.proofs.Round.{line-read}
 use Rattle.pages.proofs.line_reader.read_line_at.Needs as need

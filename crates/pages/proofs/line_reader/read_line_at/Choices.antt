@@ -1,5 +1,5 @@
 use mathlib.Core.List.{map}
-use Prim.Native.Nat.{_-_, _+_, _≤_}
+use Prim.Native.Nat.{_-_, _+_}
 use lib.ListN.{length}
 use mathlib.Core.Path.{_≡_}
 use Rattle.pages.specs.Shape.{cell-of}

@@ -1,6 +1,6 @@
 use mathlib.Core.Path.{_≡_, refl, sym, ap, subst, _∙_}
 use mathlib.Core.List.{List, []}
-use Prim.Native.Nat.{ℕ, _+_, _<_}
+use Prim.Native.Nat.{ℕ}
 use native.Mathlib.Omega.{arith}
 use Rattle.std.specs.Vec.{refused}
 use Rattle.std.specs.declared.option.Option.{Option}
@@ -9,8 +9,8 @@ use Rattle.std.specs.declared.result.Result.the-variants.{Ok, Err}
 use Rattle.std.proofs.shelf.Results.{err-from-errBy}
 use Rattle.pages.specs.declared.faults.PageFault.{PageFault}
 use Rattle.pages.specs.declared.lines.Line.{Line}
-use Rattle.pages.specs.Reading.{line-numbered, read-page, before-lines}
-use Rattle.pages.specs.Answers.{line-of, ahead, found-line, NextLine, Ahead, Passed}
+use Rattle.pages.specs.Reading.{line-numbered, read-page}
+use Rattle.pages.specs.Answers.{ahead, found-line, NextLine, Ahead, Passed}
 use Rattle.pages.specs.Laws.{Accepted, FirstWrong}
 use Rattle.pages.proofs.Paging.{pass-none, pass-below, pass-bad, keep-more, keep-all}
 use Rattle.pages.proofs.Round.{Octets, accepted-exactly}

@@ -1,7 +1,5 @@
-use mathlib.Core.Path.{_≡_}
-use Prim.Native.Nat.{_<_, _≤_}
 use native.Mathlib.Omega.{arith}
-use Rattle.pages.proofs.Writes.{Measured, measured-more, measured-all, Held, held, as-many}
+use Rattle.pages.proofs.Writes.{measured-more, measured-all, Held, held, as-many}
 use Rattle.pages.proofs.writer.line_size.Needs as need
 
 in-turn : (c : need.After-alternatives) → Held (c .args .line .now) (c .loop-cell .cell-index) (c .alternatives .result .now)

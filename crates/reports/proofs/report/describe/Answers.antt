@@ -1,6 +1,4 @@
-use mathlib.Core.Path.{_≡_, ap, sym, _∙_, subst}
-use mathlib.Core.List.{_++_}
-use Rattle.std.specs.Of.String.{string-bytes}
+use mathlib.Core.Path.{_∙_, subst}
 use Rattle.std.specs.declared.result.Result.the-variants.{Ok}
 use Rattle.pages.specs.Answers.{NextLine, Ahead}
 use Rattle.reports.proofs.Rows.{rowed-none, rowed-more}
