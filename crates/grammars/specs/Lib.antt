@@ -1,0 +1,5 @@
+pub mod Grammars
+pub mod Dates
+pub mod Calendar
+pub mod Angles
+pub mod Sheets
