@@ -6,11 +6,11 @@ use std::alloc::Global;
 use std::test::*;
 
 // One line of eight cells: 3 at 0 or 2 at 5; 0 at 0 or 8 at 2; then 0, 2, 2, 0 and 2 at 0; 3 at 0 or 4 at 1.
-pub const DATE_PAGE: &[u8; 43] =
+pub(crate) const DATE_PAGE: &[u8; 43] =
     b"\x01\x08\x023\0\02\0\x05\x020\0\08\0\x02\x010\0\0\x012\0\0\x012\0\0\x010\0\0\x012\0\0\x023\0\04\0\x01";
 
 // A page of so many lines of so many cells, each with `alternatives` symbols from 33 on at the penalties 0, 1, 2 and so on.
-pub fn even_page(
+pub(crate) fn even_page(
     heap: Global,
     lines: u8,
     cells: u8,
@@ -33,7 +33,12 @@ pub fn even_page(
 }
 
 // The page with another byte at a place.
-pub fn altered(heap: Global, page: &[u8], place: usize, byte: u8) -> Result<Vec<u8>, AllocError> {
+pub(crate) fn altered(
+    heap: Global,
+    page: &[u8],
+    place: usize,
+    byte: u8,
+) -> Result<Vec<u8>, AllocError> {
     let mut other = Vec::new(heap);
     for (at, old) in page.iter().enumerate() {
         if at == place {
@@ -46,14 +51,14 @@ pub fn altered(heap: Global, page: &[u8], place: usize, byte: u8) -> Result<Vec<
 }
 
 // The page with a byte more at its end.
-pub fn longer(heap: Global, page: &[u8], byte: u8) -> Result<Vec<u8>, AllocError> {
+pub(crate) fn longer(heap: Global, page: &[u8], byte: u8) -> Result<Vec<u8>, AllocError> {
     let mut other = page.to_vec(heap)?;
     other.push(byte)?;
     Ok(other)
 }
 
 // The line of a number, which the page has.
-pub fn line_in(page: &[u8], number: usize) -> Result<Line, Fail> {
+pub(crate) fn line_in(page: &[u8], number: usize) -> Result<Line, Fail> {
     match line_of_page(page, number) {
         Ok(found) => match found {
             Some(line) => Ok(line),
