@@ -2,6 +2,8 @@
 #[cfg(test)]
 mod bounds;
 #[cfg(test)]
+mod cursor;
+#[cfg(test)]
 mod pages_made;
 #[cfg(test)]
 mod refusals;

@@ -653,7 +653,7 @@ first-wrong bytes f all e =
           record {
             at-end = end;
             good-before = ⊎-elim (λ d. begins-less bytes (length bytes - 1) (length bytes) (omega arith) d) (λ p. p .0) so;
-            last-byte = ⊎-elim inl (λ p. inr (p .1 .1, no-page-begins bytes f e (p .1 .1))) so;
+            last-byte = ⊎-elim (λ d. inl (d, λ half. no-page-begins bytes f e half d)) (λ p. inr (p .1 .1, no-page-begins bytes f e (p .1 .1))) so;
           };
       wrong =
           λ other.

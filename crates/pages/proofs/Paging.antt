@@ -1,5 +1,5 @@
 -- What the readings of specs/Reading.antt come to from line to line. Assumes nothing.
-use mathlib.Core.Path.{_≡_, refl, sym, ap, _∙_}
+use mathlib.Core.Path.{_≡_, refl, sym, ap, subst, _∙_}
 use mathlib.Core.Bool.{cond}
 use mathlib.Core.List.{List, [], _∷_, _++_, append-assoc, append-nil}
 use mathlib.Core.Logic.{⊎-elim}
@@ -24,7 +24,10 @@ use Rattle.pages.specs.declared.faults.PageFault.the-variants as page
 use Rattle.pages.specs.declared.faults.Numbered.{Numbered}
 use Rattle.pages.specs.declared.page_reader.PageLines.{PageLines}
 use Rattle.pages.specs.Shape.{Cells, Lines}
+use Rattle.std.specs.Vec.{made}
 use Rattle.pages.specs.Faults.{with-number}
+use Rattle.pages.specs.Writing.{line-bytes}
+use Rattle.pages.specs.Laws.{Stands}
 use Rattle.pages.specs.Reading.{onward, read-count, lines-due, read-line, read-lines, page-end, read-page, before-lines, line-numbered}
 use Rattle.pages.specs.Answers.{line-of, LineRead, ahead, next-of, BeforeFirst, Passed}
 use Rattle.pages.proofs.Steps.{one-due, none-due, counts}
@@ -54,6 +57,13 @@ pub good-line : (number : ℕ) (r : Result (Line × ℕ) LineFault) (bytes : Lis
     → Ok got ≡ with-number number r → LineRead r bytes at → read-line bytes at ≡ Ok (line-of (got .0), got .1)
 good-line number (Ok x) bytes at got e h = let same : got ≡ x = cc in h ∙ ap (λ y. Ok (line-of (y .0), y .1)) (sym same)
 good-line number (Err f) bytes at got e h = let z : _≡_ {A = ℕ} 0 1 = cc in absurd (omega arith)
+
+pub good-bytes : (number : ℕ) (r : Result (Line × ℕ) LineFault) (bytes : List ℕ) (at : ℕ) (got : Line × ℕ)
+    → Ok got ≡ with-number number r → made r (λ g. Stands bytes at (line-bytes (line-of (g .0))) (g .1)) → Stands bytes at (line-bytes (line-of (got .0))) (got .1)
+good-bytes number (Ok x) bytes at got e h =
+    let same : got ≡ x = cc in
+    subst (λ g. Stands bytes at (line-bytes (line-of (g .0))) (g .1)) (sym same) h
+good-bytes number (Err f) bytes at got e h = let z : _≡_ {A = ℕ} 0 1 = cc in absurd (omega arith)
 
 pub refused-line : (number : ℕ) (r : Result (Line × ℕ) LineFault) (bytes : List ℕ) (at : ℕ) (e : Numbered LineFault)
     → Err e ≡ with-number number r → LineRead r bytes at → (e ≡ record { number = number; fault = e .fault }) × (read-line bytes at ≡ Err (e .fault))

@@ -17,12 +17,15 @@ use Rattle.pages.specs.declared.faults.PageFault.{PageFault}
 use Rattle.pages.specs.declared.faults.PageFault.the-variants as page
 use Rattle.pages.specs.declared.page_reader.PageLines.{PageLines}
 use Rattle.pages.specs.Shape.{Cells, Lines, cells-in}
+use Rattle.pages.specs.Writing.{line-bytes}
+use Rattle.pages.specs.Laws.{Stands}
 use Rattle.pages.specs.Reading.{onward, lines-due, read-line, read-lines, read-page, before-lines}
 
 -- the cells of a line, and the alternatives of each
 abbrev pub line-of : Line → Cells
 line-of l = cells-in (l .cells)
 
+-- a line read is what its bytes say, and so is a fault
 abbrev pub LineRead : Result (Line × ℕ) LineFault → List ℕ → ℕ → Type 0
 LineRead (Ok got) bytes at = read-line bytes at ≡ Ok (line-of (got .0), got .1)
 LineRead (Err fault) bytes at = read-line bytes at ≡ Err fault
@@ -39,6 +42,7 @@ pub record BeforeFirst (bytes : List ℕ) (p : PageLines) : Type 0 where
   pub first : p .place ≡ 1
   pub whole : read-page bytes ≡ ahead p
 
+-- a page is opened where its count of lines is good
 abbrev pub Opened : Result PageLines PageFault → List ℕ → Type 0
 Opened (Ok p) bytes = BeforeFirst bytes p
 Opened (Err fault) bytes = (lines-due bytes ≡ Err fault) × (read-page bytes ≡ Err fault)
@@ -50,13 +54,14 @@ next-of p =
     (onward (read-line (now (p .bytes)) (p .place)) (λ f. page.Line (record { number = p .number; fault = f })) (λ l. Ok (Some l)))
     (cond (ltb (p .place) (length (now (p .bytes)))) (Err (page.Excess (p .place))) (Ok None))
 
--- a line was met, and the next place is the one behind it
+-- a line was met, its bytes stand there, and the next place is the one behind them
 pub record Passed (line : Line) (was is : PageLines) : Type 0 where
   pub due : was .number < was .count
   pub met : next-of was ≡ Ok (Some (line-of line, is .place))
   pub page : now (is .bytes) ≡ now (was .bytes)
   pub lines : is .count ≡ was .count
   pub one : is .number ≡ was .number + 1
+  pub stands : Stands (now (was .bytes)) (was .place) (line-bytes (line-of line)) (is .place)
 
 abbrev pub NextLine : Result (Option Line) PageFault → PageLines → PageLines → Type 0
 NextLine (Ok (Some line)) was is = Passed line was is

@@ -28,7 +28,7 @@ pub record Stands (bytes : List ℕ) (at : ℕ) (part : List ℕ) (next : ℕ) :
   pub size : next ≡ at + length part
   pub fits : next ≤ length bytes
 
--- the bytes are accepted, and read as these lines, exactly where they are the bytes of these lines, well-formed
+-- the bytes are accepted, and read as these lines, exactly when they are the bytes of these lines, well-formed
 abbrev pub Accepted : List ℕ → Type 0
 Accepted bytes =
     (lines : Lines)
@@ -44,7 +44,8 @@ ReadsBack (Err short) l place = Unit {0}
 abbrev pub Begins : List ℕ → ℕ → Type 0
 Begins bytes n = (lines : Lines) × (well-formed-page lines ≡ true) × (take n (page-bytes lines) ≡ take n bytes)
 
--- the place behind the last byte that a fault was judged by: the byte of its place, and of a penalty the low byte too
+-- how many bytes from the page's start a fault was judged by: up to the one at its place, and of a penalty also the low
+-- byte; of a missing byte one more than there are
 abbrev pub alternative-judged : AlternativeFault → ℕ
 alternative-judged (alternative.Short at) = at + 1
 alternative-judged (alternative.Symbol at) = at + 1
@@ -68,7 +69,7 @@ page-judged (page.Line f) = line-judged (f .fault)
 page-judged (page.Excess at) = at + 1
 
 -- a byte is wrong: it is there, no page that begins with the bytes judged is accepted (each is refused for the same
--- fault), and some well-formed page has all the bytes before it
+-- fault), and some well-formed page begins with all the bytes before it
 pub record WrongByte (bytes : List ℕ) (f : PageFault) : Type 0 where
   pub there : page-judged f ≤ length bytes
   pub always : (other : List ℕ) → take (page-judged f) other ≡ take (page-judged f) bytes → read-page other ≡ Err f
@@ -85,7 +86,9 @@ HalfPenaltyTooLow bytes =
 pub record MissingByte (bytes : List ℕ) (f : PageFault) : Type 0 where
   pub at-end : page-returns f .place ≡ length bytes
   pub good-before : Begins bytes (length bytes - 1)
-  pub last-byte : Begins bytes (length bytes) ⊎ (HalfPenaltyTooLow bytes × (Begins bytes (length bytes) → ⊥))
+  pub last-byte :
+      (Begins bytes (length bytes) × (HalfPenaltyTooLow bytes → ⊥))
+      ⊎ (HalfPenaltyTooLow bytes × (Begins bytes (length bytes) → ⊥))
 
 -- a refusal names the first thing wrong
 pub record FirstWrong (bytes : List ℕ) (f : PageFault) : Type 0 where

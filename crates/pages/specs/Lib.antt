@@ -3,5 +3,5 @@ pub mod Shape
 pub mod Faults
 pub mod Reading
 pub mod Writing
-pub mod Answers
 pub mod Laws
+pub mod Answers

@@ -21,7 +21,7 @@ use Rattle.pages.specs.declared.faults.PageFault.{PageFault}
 use Rattle.pages.specs.declared.faults.PageFault.the-variants as page
 use Rattle.pages.specs.Shape.{Alternatives, Cells, Lines, seen}
 
--- what comes next where the value is there, and else the fault, as it stands in the fault above
+-- goes on with the value; a fault ends the reading, put by `up` into the fault above
 abbrev pub onward : {A B E F : Type 0} → Result A E → (E → F) → (A → Result B F) → Result B F
 onward (Ok x) up next = next x
 onward (Err e) up next = Err (up e)
@@ -39,10 +39,11 @@ last-penalty [] = 0
 last-penalty (a ∷ []) = a .penalty
 last-penalty (a ∷ b ∷ more) = last-penalty (b ∷ more)
 
+-- the byte at a place
 abbrev pub symbol-at : List ℕ → ℕ → ℕ
 symbol-at bytes at = getD bytes at 0
 
--- high byte first, behind the symbol
+-- behind the symbol at a place, high byte first
 abbrev pub penalty-at : List ℕ → ℕ → ℕ
 penalty-at bytes at = getD bytes (at + 1) 0 * 256 + getD bytes (at + 2) 0
 
@@ -63,6 +64,7 @@ read-alternatives bytes zero at before = Ok (before, at)
 read-alternatives bytes (suc due) at before =
     onward (read-alternative bytes at before) cell.Alternative (λ a. read-alternatives bytes due (at + 3) (before ++ a ∷ []))
 
+-- the cell at a place, with the place behind it
 unfoldable pub read-cell : List ℕ → ℕ → Result (Alternatives × ℕ) CellFault
 read-cell bytes at = onward (read-count 8 bytes at) cell.Count (λ due. read-alternatives bytes due (at + 1) [])
 
@@ -97,6 +99,7 @@ read-lines bytes (suc due) at number =
 abbrev pub lines-due : List ℕ → Result ℕ PageFault
 lines-due bytes = onward (read-count 40 bytes 0) page.Count Ok
 
+-- the lines of a page, and nothing behind them
 unfoldable pub read-page : List ℕ → Result Lines PageFault
 read-page bytes = onward (read-count 40 bytes 0) page.Count (λ due. read-lines bytes due 1 0)
 

@@ -45,6 +45,7 @@ abbrev pub rising : ℕ → Alternatives → Bool
 rising low [] = true
 rising low (a ∷ more) = leb low (a .penalty) && rising (a .penalty) more
 
+-- the test holds of each
 abbrev pub every : {X : Type 0} → (X → Bool) → List X → Bool
 every f [] = true
 every f (x ∷ xs) = f x && every f xs
@@ -53,6 +54,7 @@ every f (x ∷ xs) = f x && every f xs
 abbrev pub one-to : ℕ → ℕ → Bool
 one-to most n = leb 1 n && leb n most
 
+-- what may stand in a page file
 unfoldable pub well-formed-cell : Alternatives → Bool
 well-formed-cell c = one-to 8 (length c) && every in-range c && once c && rising 0 c
 

@@ -14,6 +14,7 @@ use Rattle.pages.specs.Shape.{Alternatives, Cells, Lines}
 abbrev pub alternative-bytes : Alternative → List ℕ
 alternative-bytes a = a .symbol ∷ a .penalty / 256 ∷ a .penalty % 256 ∷ []
 
+-- a count, and then what it counts
 abbrev pub cell-bytes : Alternatives → List ℕ
 cell-bytes c = length c ∷ joined alternative-bytes c
 

@@ -1,5 +1,5 @@
 // A line of a page, held in place. What one holds is well-formed by its type, so that nothing that is
-// given a line has to doubt it.
+// given a line needs to check it.
 ghost use mathlib.Core.Path.{_≡_};
 ghost use mathlib.Core.Bool.{true};
 ghost use mathlib.Core.List.{[]};
@@ -13,7 +13,7 @@ pub const MOST_CELLS: usize = 24;
 
 pub const MOST_ALTERNATIVES: usize = 8;
 
-// One reading of a cell: the symbol, and what it costs to take it.
+// One alternative of a cell: the symbol, and what it costs to take it.
 #[derive(Clone, Copy)]
 pub struct Alternative {
     pub symbol: u8,
@@ -45,7 +45,7 @@ impl Cell {
         }
     }
 
-    // The alternatives, in the order of their ranks.
+    // The alternatives, from the first.
     pub fn alternatives(&self) -> &[Alternative]
         ensures items { λ r. ⌜ now r ≡ cell-of (now (self .entry)) ⌝ }
         ensures few { λ r. ⌜ length (now r) ≤ 8 ⌝ }

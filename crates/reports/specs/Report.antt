@@ -22,14 +22,16 @@ abbrev pub line-row : ℕ → Cells → List ℕ
 line-row number l =
     codes "line " ++ (decimal number ++ (codes ": cells " ++ (decimal (length l) ++ (codes ", alternatives " ++ (decimal (alternatives-in l) ++ codes "\n")))))
 
--- a row for each line, the first under a number
+-- a row for each line, numbered from a number on
 unfoldable pub line-rows : ℕ → Lines → List ℕ
 line-rows number [] = []
 line-rows number (l ∷ more) = line-row number l ++ line-rows (number + 1) more
 
+-- the count of the lines, and a row for each
 abbrev pub good-text : Lines → List ℕ
 good-text lines = codes "page of " ++ (decimal (length lines) ++ (codes " lines\n" ++ line-rows 0 lines))
 
+-- the number and the place of the refusal, and below it the words
 abbrev pub refusal-text : List ℕ → PageFault → List ℕ
 refusal-text bytes f =
     codes "refused " ++ (decimal (page-returns f .number) ++ (codes " at " ++ (decimal (page-returns f .place) ++ (codes "\n" ++ (page-words bytes f ++ codes "\n")))))

@@ -24,13 +24,14 @@ hex-digit n = cond (ltb n 10) (48 + n) (87 + n)
 abbrev pub hex : ℕ → List ℕ
 hex byte = hex-digit (byte / 16) ∷ hex-digit (byte % 16) ∷ []
 
--- a byte of the page, and a penalty of two; 0 where the page has none
+-- a byte of the page, and the penalty of two bytes whose high byte stands at a place; 0 where the page has none
 abbrev pub byte-at : List ℕ → ℕ → ℕ
 byte-at bytes at = getD bytes at 0
 
 abbrev pub penalty-from : List ℕ → ℕ → ℕ
 penalty-from bytes at = getD bytes at 0 * 256 + getD bytes (at + 1) 0
 
+-- why a count of what is named is refused
 abbrev pub count-words : List ℕ → List ℕ → ℕ → CountFault → List ℕ
 count-words bytes what most (count.Short at) = codes "the page ends where the count of " ++ (what ++ codes " is due")
 count-words bytes what most (count.Count at) =
@@ -49,6 +50,7 @@ abbrev pub cell-words : List ℕ → CellFault → List ℕ
 cell-words bytes (cell.Count f) = count-words bytes (codes "alternatives") 8 f
 cell-words bytes (cell.Alternative f) = alternative-words bytes f
 
+-- with the number of the line, and of the cell where the fault lies in one
 abbrev pub line-words : List ℕ → ℕ → LineFault → List ℕ
 line-words bytes number (line.Count f) = codes "line " ++ (decimal number ++ (codes ": " ++ count-words bytes (codes "cells") 24 f))
 line-words bytes number (line.Cell c) =

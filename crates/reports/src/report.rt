@@ -5,6 +5,8 @@ ghost use Rattle.std.specs.Of.String.{string-bytes};
 ghost use Rattle.std.specs.Vec.{made};
 ghost use Rattle.pages.specs.Answers.{line-of};
 ghost use Rattle.pages.specs.Reading.{read-page};
+ghost use Rattle.pages.specs.Laws.{Accepted, FirstWrong};
+ghost use Rattle.std.specs.declared.result.Result.the-variants.{Err};
 ghost use Rattle.reports.specs.Report.{alternatives-in, line-row, refusal-text, report-text};
 ghost use Rattle.reports.specs.Described.{Described};
 ghost use Rattle.reports.specs.declared.report.Trouble.the-variants as Troubles;
@@ -95,6 +97,8 @@ fn describe_refusal(heap: Global, page: &[u8], fault: PageFault) -> Result<Strin
 pub fn report_page(heap: Global, page: &[u8]) -> Result<Report, AllocError>
     ensures text { λ r. ⌜ made r (λ s. string-bytes (s .text) ≡ report-text (now (page .entry))) ⌝ }
     ensures accepted { λ r. ⌜ made r (λ s. s .accepted ≡ isOk (read-page (now (page .entry)))) ⌝ }
+    ensures exactly { λ _. ⌜ Accepted (now (page .entry)) ⌝ }
+    ensures first_wrong { λ _. ⌜ ((f : PageFault) → read-page (now (page .entry)) ≡ Err f → FirstWrong (now (page .entry)) f) ⌝ }
 {
     match describe(heap, page) {
         Ok(text) => Ok(Report {
