@@ -30,14 +30,10 @@ use Rattle.pages.specs.Reading.{last-penalty, symbol-at, penalty-at, onward, r
 use Rattle.pages.specs.Writing.{alternative-bytes, cell-bytes, line-bytes, page-bytes}
 use Rattle.pages.specs.Laws.{Stands, Begins, alternative-judged, cell-judged, line-judged, page-judged, HalfPenaltyTooLow, FirstWrong}
 use Rattle.pages.proofs.Shape.{InRange, WellFormedCell, WellFormedLine, WellFormedPage, page-parts, page-from}
-use Rattle.pages.proofs.Steps.{counts}
+use Rattle.pages.proofs.Steps.{counts, split}
+use Rattle.pages.proofs.Causes.{page-true}
 use Rattle.pages.proofs.Round.{Octets, Fair, fair-cell, reads, alternative-stands, fair-one, got-cell, line-read, last-push, page-back}
 use Rattle.pages.proofs.Local.{shorter, still-read, alternative-local, count-local, cell-local, line-local, jC, jL, bad-before, page-refused}
-
--- a refused test or reading
-split : {A F : Type 0} (t : Bool) (f : F) (r : Result A F) {g : F} → cond t (Err f) r ≡ Err g → ((t ≡ true) × (f ≡ g)) ⊎ ((t ≡ false) × (r ≡ Err g))
-split true f r e = inl (refl, cc)
-split false f r e = inr (refl, e)
 
 -- a free symbol: one that is seen is taken out, and with it one of those to choose from
 abbrev without : ℕ → Alternatives → Alternatives
@@ -646,6 +642,7 @@ pub first-wrong : (bytes : List ℕ) (f : PageFault) → Octets bytes → read-p
 first-wrong bytes f all e =
     let told = page-refused bytes f e in
     record {
+      true-of = page-true bytes f e;
       missing =
           λ one.
           let end : page-returns f .place ≡ length bytes = ⊎-elim (λ fits. absurd (fits .1 one)) (λ out. omega (arith, out .0, page-short f one)) (told .within) in

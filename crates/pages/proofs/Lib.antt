@@ -4,4 +4,5 @@ pub mod Paging
 pub mod Writes
 pub mod Round
 pub mod Local
+pub mod Causes
 pub mod Earlier

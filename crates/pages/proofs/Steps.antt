@@ -1,6 +1,7 @@
 -- What the readings of specs/Reading.antt come to within a line, one step at a time. Assumes nothing.
 use mathlib.Core.Path.{_≡_, refl, sym, ap, subst, _∙_}
 use mathlib.Core.Bool.{Bool, true, false, cond, _||_}
+use mathlib.Core.Logic.{_⊎_, inl, inr}
 use mathlib.Core.List.{List, [], _∷_, _++_}
 use Prim.Native.Nat.{ℕ, suc, _+_, _-_, _<_, _≤_}
 use native.Mathlib.Omega.{arith}
@@ -25,6 +26,11 @@ use Rattle.pages.specs.Reading.{last-penalty, onward, read-count, read-alterna
 pub passed : {A F : Type 0} (b : Bool) (f : F) (r : Result A F) {x : A} → cond b (Err f) r ≡ Ok x → (b ≡ false) × (r ≡ Ok x)
 passed true f r e = let z : _≡_ {A = ℕ} 0 1 = cc in absurd (omega arith)
 passed false f r e = (refl, e)
+
+-- a refused test or reading
+pub split : {A F : Type 0} (t : Bool) (f : F) (r : Result A F) {g : F} → cond t (Err f) r ≡ Err g → ((t ≡ true) × (f ≡ g)) ⊎ ((t ≡ false) × (r ≡ Err g))
+split true f r e = inl (refl, cc)
+split false f r e = inr (refl, e)
 
 -- what a count that is read says
 pub record Counts (most : ℕ) (bytes : List ℕ) (at n : ℕ) : Type 0 where

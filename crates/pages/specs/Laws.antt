@@ -3,8 +3,8 @@ use mathlib.Core.Path.{_≡_}
 use mathlib.Core.Bool.{true}
 use mathlib.Core.List.{List, [], _∷_, _++_}
 use mathlib.Core.Logic.{_⊎_}
-use Prim.Native.Nat.{ℕ, _+_, _-_, _<_, _≤_}
-use lib.ListN.{length, take, drop}
+use Prim.Native.Nat.{ℕ, _+_, _-_, _*_, _<_, _≤_}
+use lib.ListN.{length, getD, take, drop}
 use Rattle.std.specs.declared.result.Result.{Result}
 use Rattle.std.specs.declared.result.Result.the-variants.{Ok, Err}
 use Rattle.pages.specs.declared.faults.AlternativeFault.{AlternativeFault}
@@ -16,6 +16,7 @@ use Rattle.pages.specs.declared.faults.LineFault.{LineFault}
 use Rattle.pages.specs.declared.faults.LineFault.the-variants as line
 use Rattle.pages.specs.declared.faults.PageFault.{PageFault}
 use Rattle.pages.specs.declared.faults.PageFault.the-variants as page
+use Rattle.pages.specs.declared.faults.Returned.{Returned}
 use Rattle.pages.specs.declared.writer.PlaceFault.{PlaceFault}
 use Rattle.pages.specs.Shape.{Cells, Lines, well-formed-page}
 use Rattle.pages.specs.Faults.{count-returns, page-returns}
@@ -90,7 +91,20 @@ pub record MissingByte (bytes : List ℕ) (f : PageFault) : Type 0 where
       (Begins bytes (length bytes) × (HalfPenaltyTooLow bytes → ⊥))
       ⊎ (HalfPenaltyTooLow bytes × (Begins bytes (length bytes) → ⊥))
 
+-- the penalty whose high byte stands at a place
+abbrev pub penalty-of : List ℕ → ℕ → ℕ
+penalty-of bytes at = getD bytes at 0 * 256 + getD bytes (at + 1) 0
+
+-- what a refusal says of the byte at its place is so: a count is 0 or above the most, which is 8, 24 or 40; a symbol is out
+-- of its range; the same symbol stands some alternatives before, of three bytes each; a penalty is below the one before
+pub record SaysTrue (bytes : List ℕ) (r : Returned) : Type 0 where
+  pub count : r .number ≡ 2 → (getD bytes (r .place) 0 ≡ 0) ⊎ (8 < getD bytes (r .place) 0)
+  pub symbol : r .number ≡ 3 → (getD bytes (r .place) 0 < 33) ⊎ (126 < getD bytes (r .place) 0)
+  pub twice : r .number ≡ 4 → (k : ℕ) × (0 < k) × (3 * k ≤ r .place) × (getD bytes (r .place - 3 * k) 0 ≡ getD bytes (r .place) 0)
+  pub order : r .number ≡ 5 → (3 ≤ r .place) × (penalty-of bytes (r .place) < penalty-of bytes (r .place - 3))
+
 -- a refusal names the first thing wrong
 pub record FirstWrong (bytes : List ℕ) (f : PageFault) : Type 0 where
+  pub true-of : SaysTrue bytes (page-returns f)
   pub missing : page-returns f .number ≡ 1 → MissingByte bytes f
   pub wrong : (page-returns f .number ≡ 1 → ⊥) → WrongByte bytes f
