@@ -16,7 +16,7 @@ use Rattle.positions.specs.declared.Refusal.the-variants.{Position}
 use Rattle.positions.specs.Positions.{is-position, pair-of, reading}
 use Rattle.grammars.specs.declared.sheet.Sheet.{Sheet}
 use Rattle.positions.proofs.Round.{pair-back, pair-again}
-use Rattle.grammars.specs.Grammars.{from, Shut}
+use Rattle.grammars.specs.Grammars.{from-length, Shut}
 use Rattle.grammars.specs.Sheets.{holds, on-sheet, admits-sheet, allows-sheet, sheet-sets, Covers}
 use Rattle.grammars.proofs.Openings.{from-holds, from-gives}
 
@@ -51,7 +51,7 @@ outside-is t s f h e = sym (λ i. h i && (read-err s f e i && on-sheet t (pair-o
 
 module _ (t : Sheet) where
   abbrev opening : List ℕ → Bool
-  opening s = leb (length s) 17 && from 17 s (admits-sheet t s)
+  opening s = leb (length s) 17 && from-length 17 s (admits-sheet t s)
 
   at-sound : (s : List ℕ) → holds t ≡ true → allows-sheet t s ≡ opening s
   at-sound s h = cond-true (holds t) (opening s) (eqb (length s) 0) h
@@ -65,10 +65,10 @@ module _ (t : Sheet) where
   open-shorter : (s : List ℕ) (n : ℕ) → opening s ≡ true → opening (take n s) ≡ true
   open-shorter s n h =
       let len = length-take n s in
-      let p = and-parts (leb (length s) 17) (from 17 s (admits-sheet t s)) h in
+      let p = and-parts (leb (length s) 17) (from-length 17 s (admits-sheet t s)) h in
       let short = leb-true (length s) 17 (p .0) in
       let whole = from-gives 17 s (admits-sheet t s) (p .1) in
-      and-from (leb (length (take n s)) 17) (from 17 (take n s) (admits-sheet t (take n s)))
+      and-from (leb (length (take n s)) 17) (from-length 17 (take n s) (admits-sheet t (take n s)))
       (le-leb (length (take n s)) 17 (omega (arith, len)))
       (from-holds 17 (take n s) (admits-sheet t (take n s)) (λ l. ap (admits-sheet t) (take-all n s (omega (arith, len))) ∙ whole (omega (arith, len))))
 
@@ -87,7 +87,7 @@ module _ (t : Sheet) where
       let q = and-parts (is-position s) (on-sheet t (pair-of s)) (p .1) in
       let long = eqb-true (length s) 17 (and-parts (eqb (length s) 17) _ (q .0) .0) in
       at-sound s (p .0)
-      ∙ and-from (leb (length s) 17) (from 17 s (admits-sheet t s)) (le-leb (length s) 17 (omega arith)) (from-holds 17 s (admits-sheet t s) (λ _. h))
+      ∙ and-from (leb (length s) 17) (from-length 17 s (admits-sheet t s)) (le-leb (length s) 17 (omega arith)) (from-holds 17 s (admits-sheet t s) (λ _. h))
 
   -- a failing table shuts the sheet
   pub shut : holds t ≡ false → Shut (sheet-sets t)

@@ -38,7 +38,7 @@ date-text t = numeral 2 (t .0) ++ (numeral 2 (t .1) ++ numeral 4 (t .2))
 abbrev pub Dated : List ℕ → Type 0
 Dated s = (n : ℕ) × (n < 73049) × (s ≡ date-text (nth-day n))
 
--- The last of these days is 31 December 2099, and no two of them have one text: so 73,049 texts are dates.
+-- The last of these days is 31 December 2099, and no two of them have the same text: so 73,049 texts are dates.
 pub record Calendar : Type 0 where
   pub last : nth-day 73048 ≡ (31, 12, 2099)
   pub once : (m n : ℕ) → m < 73049 → n < 73049 → date-text (nth-day m) ≡ date-text (nth-day n) → m ≡ n

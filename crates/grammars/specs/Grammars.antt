@@ -25,8 +25,8 @@ Texts = List ℕ → Bool
 
 -- The meaning of a grammar: the texts that it admits and the openings that it allows.
 pub record Sets : Type 0 where
-  pub admits : List ℕ → Bool
-  pub allows : List ℕ → Bool
+  pub admits : Texts
+  pub allows : Texts
 
 -- The laws of a grammar: the empty opening is allowed; every beginning of an allowed opening is allowed; every beginning of an
 -- admitted text, the whole included, is allowed.
@@ -39,9 +39,9 @@ pub record Lawful (g : Sets) : Type 0 where
 abbrev pub Shut : Sets → Type 0
 Shut g = (s : List ℕ) → (g .admits s ≡ false) × (g .allows s ≡ eqb (length s) 0)
 
--- what an opening has to pass from n symbols on
-abbrev pub from : ℕ → List ℕ → Bool → Bool
-from n s t = cond (leb n (length s)) t true
+-- what an opening of n symbols or more has to pass
+abbrev pub from-length : ℕ → List ℕ → Bool → Bool
+from-length n s t = cond (leb n (length s)) t true
 
 -- what each of two sets has
 abbrev pub in-both : Texts → Texts → Texts

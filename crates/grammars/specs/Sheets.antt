@@ -14,7 +14,7 @@ use Rattle.positions.specs.Positions.{is-position, is-pair, pair-of, Says}
 use Rattle.grammars.specs.declared.Refusal.{Refusal}
 use Rattle.grammars.specs.declared.Refusal.the-variants.{Table}
 use Rattle.grammars.specs.declared.sheet.Sheet.{Sheet}
-use Rattle.grammars.specs.Grammars.{Sets, from}
+use Rattle.grammars.specs.Grammars.{Sets, from-length}
 
 -- z lies between low and high, or on one of them
 abbrev pub between : ℤ → ℤ → ℤ → Bool
@@ -24,6 +24,7 @@ between low high z = leZ low z && leZ z high
 abbrev pub holds : Sheet → Bool
 holds t = (leZ (t .south) (t .north) && leZ (t .west) (t .east)) && (is-pair (t .south) (t .west) && is-pair (t .north) (t .east))
 
+-- what the check of a sheet's table answers
 abbrev pub checking : Sheet → Result (Unit {0}) Refusal
 checking t = cond (holds t) (Ok tt) (Err Table)
 
@@ -31,12 +32,13 @@ checking t = cond (holds t) (Ok tt) (Err Table)
 abbrev pub on-sheet : Sheet → ℤ × ℤ → Bool
 on-sheet t p = between (t .south) (t .north) (p .0) && between (t .west) (t .east) (p .1)
 
+-- the table holds, and s is the text of a position on the sheet
 abbrev pub admits-sheet : Sheet → List ℕ → Bool
 admits-sheet t s = holds t && (is-position s && on-sheet t (pair-of s))
 
 -- up to 16 symbols of any kind; 17 must be admitted
 abbrev pub allows-sheet : Sheet → List ℕ → Bool
-allows-sheet t s = cond (holds t) (leb (length s) 17 && from 17 s (admits-sheet t s)) (eqb (length s) 0)
+allows-sheet t s = cond (holds t) (leb (length s) 17 && from-length 17 s (admits-sheet t s)) (eqb (length s) 0)
 
 abbrev pub sheet-sets : Sheet → Sets
 sheet-sets t = record { admits = admits-sheet t; allows = allows-sheet t }

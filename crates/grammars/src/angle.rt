@@ -49,7 +49,8 @@ fn parts_open(axis: Axis, opening: &[u8]) -> bool
     degrees_open(axis, opening) && minutes_open(axis, opening) && whole_opens(axis, opening)
 }
 
-// Whether the text of an angle may begin so.
+// Whether a search for the text of an angle may go on from the opening: every beginning of such a text is
+// allowed, and some others are.
 fn opens(axis: Axis, opening: &[u8]) -> bool
     ensures { λ r. ⌜ r ≡ allows-angle axis (now (opening .entry)) ⌝ }
 {

@@ -42,7 +42,8 @@ pub trait Grammar {
     fn is_admitted(&self, text: &[u8]) -> bool
         ensures { λ r. ⌜ r ≡ meaning (now (self .entry)) .admits (now (text .entry)) ⌝ };
 
-    // Whether the opening is allowed: whether an admitted text may begin so.
+    // Whether the opening is allowed: whether a search may go on from it. Every beginning of an admitted text is
+    // allowed, and others may be.
     fn is_allowed(&self, opening: &[u8]) -> bool
         ensures { λ r. ⌜ r ≡ meaning (now (self .entry)) .allows (now (opening .entry)) ⌝ };
 }

@@ -38,15 +38,18 @@ word (negsuc n) = 4294967296 - suc n
 abbrev pub word-bytes : ℕ → List ℕ
 word-bytes n = (n / 16777216 % 256) ∷ (n / 65536 % 256) ∷ (n / 256 % 256) ∷ (n % 256) ∷ []
 
+-- the eight bytes of a mark: the latitude's word and then the longitude's
 abbrev pub mark-bytes : Confirmed → List ℕ
 mark-bytes m = word-bytes (word (m .latitude)) ++ word-bytes (word (m .longitude))
 
--- The two numbers that eight bytes say: how a plotted mark is read again.
+-- the number that four bytes write, high byte first
 abbrev pub word-of : List ℕ → ℕ
 word-of s = ((getD s 0 0 * 256 + getD s 1 0) * 256 + getD s 2 0) * 256 + getD s 3 0
 
+-- the number whose two's complement is n: from 2^31 on it is negative
 abbrev pub number-of-word : ℕ → ℤ
 number-of-word n = cond (ltb n 2147483648) (pos n) (negℤ (pos (4294967296 - n)))
 
+-- The two numbers that eight bytes say: how a plotted mark is read again.
 abbrev pub plotted : List ℕ → ℤ × ℤ
 plotted s = (number-of-word (word-of (take 4 s)), number-of-word (word-of (drop 4 s)))

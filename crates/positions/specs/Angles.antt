@@ -30,6 +30,7 @@ least-of Longitude = negℤ (pos 10799999)
 abbrev pub greatest-of : Axis → ℤ
 greatest-of a = pos (most-of a * 60000)
 
+-- z is at least the least angle and at most the greatest
 abbrev pub in-range : Axis → ℤ → Bool
 in-range a z = leZ (least-of a) z && leZ z (greatest-of a)
 
@@ -57,6 +58,7 @@ angle-text a z =
 abbrev pub Written : Axis → List ℕ → Type 0
 Written a s = (z : ℤ) × (in-range a z ≡ true) × (s ≡ angle-text a z)
 
+-- how many symbols a text has: the degrees, five figures and the letter
 abbrev pub width-of : Axis → ℕ
 width-of a = figures-of a + 6
 
@@ -84,5 +86,6 @@ angle-of a s = cond (eqb (letter-of a s) (negative-of a)) (negℤ (pos (magnitud
 abbrev pub fitting : Axis → ℕ → ℤ → Bool
 fitting a h z = in-range a z && eqb h (letter-for a z)
 
+-- s has the width of the axis's texts, figures before the letter, minutes below 60, and says an angle in range with its own letter
 abbrev pub is-angle : Axis → List ℕ → Bool
 is-angle a s = eqb (length s) (width-of a) && (digits (take (figures-of a + 5) s) && (ltb (minutes-of a s) 60 && fitting a (letter-of a s) (angle-of a s)))

@@ -22,6 +22,7 @@ refusal Position = 11
 abbrev pub is-pair : ℤ → ℤ → Bool
 is-pair y x = in-range Latitude y && in-range Longitude x
 
+-- the text of the pair y and x: the latitude's and then the longitude's
 abbrev pub position-text : ℤ → ℤ → List ℕ
 position-text y x = angle-text Latitude y ++ angle-text Longitude x
 
@@ -29,6 +30,7 @@ position-text y x = angle-text Latitude y ++ angle-text Longitude x
 abbrev pub Says : List ℕ → ℤ → ℤ → Type 0
 Says s y x = (is-pair y x ≡ true) × (s ≡ position-text y x)
 
+-- s has 17 symbols, a latitude of 8 and a longitude of 9
 abbrev pub is-position : List ℕ → Bool
 is-position s = eqb (length s) 17 && (is-angle Latitude (take 8 s) && is-angle Longitude (drop 8 s))
 

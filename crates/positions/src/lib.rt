@@ -72,12 +72,13 @@ pub fn is_pair(latitude: i32, longitude: i32) -> bool
 }
 
 // Writes the text of a pair. What is written reads back as the same pair, and no other text does.
-pub fn write_position(latitude: i32, longitude: i32, place: &mut [u8]) -> Result<usize, Refusal>
-    ensures answer { λ r. ⌜ r ≡ writing latitude longitude (length (now (place .entry))) ⌝ }
-    ensures written { λ r. ⌜ now (place .exit) ≡ cond (isOk r) (position-text latitude longitude ++ drop 17 (now (place .entry))) (now (place .entry)) ⌝ }
-    ensures back { λ r. ⌜ made r (λ n. reading (take n (now (place .exit))) ≡ Ok (latitude, longitude)) ⌝ }
-    ensures only { λ r. ⌜ made r (λ n. (s : List ℕ) → reading s ≡ Ok (latitude, longitude) → s ≡ take n (now (place .exit))) ⌝ }
+pub fn write_position(pair: (i32, i32), place: &mut [u8]) -> Result<usize, Refusal>
+    ensures answer { λ r. ⌜ r ≡ writing (pair .0) (pair .1) (length (now (place .entry))) ⌝ }
+    ensures written { λ r. ⌜ now (place .exit) ≡ cond (isOk r) (position-text (pair .0) (pair .1) ++ drop 17 (now (place .entry))) (now (place .entry)) ⌝ }
+    ensures back { λ r. ⌜ made r (λ n. reading (take n (now (place .exit))) ≡ Ok (pair .0, pair .1)) ⌝ }
+    ensures only { λ r. ⌜ made r (λ n. (s : List ℕ) → reading s ≡ Ok (pair .0, pair .1) → s ≡ take n (now (place .exit))) ⌝ }
 {
+    let (latitude, longitude) = pair;
     if !is_pair(latitude, longitude) {
         return Err(Refusal::Position);
     }

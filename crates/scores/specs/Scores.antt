@@ -17,7 +17,7 @@ pub record Meaning : Type 0 where
   pub most-cells : ℕ
   pub highest-penalty : ℕ
 
--- The laws of a score. `transitive` and `either`: of any totals some order from best to worst can be made. `steady`: a no worse
+-- The laws of a score. `transitive` and `either`: totals can be ranked from best to worst. `steady`: a no worse
 -- total stays no worse after the same step. `cheaper`: a smaller penalty never makes the result of a step worse. And a total
 -- is below 2^64.
 pub record Laws (s : Meaning) : Type 0 where
@@ -61,16 +61,18 @@ shares-meaning = record {
   highest-penalty = 99;
 }
 
+-- the sum of the penalties
 abbrev pub penalty-sum : List ℕ → ℕ
 penalty-sum [] = 0
 penalty-sum (p ∷ ps) = p + penalty-sum ps
 
+-- the product of the shares that the penalties leave, 100 less each
 abbrev pub share-product : List ℕ → ℕ
 share-product [] = 1
 share-product (p ∷ ps) = (100 - p) * share-product ps
 
--- Within its two figures a score never holds a total at its limit: Sum gives the sum of the penalties, and Shares the
--- product of the shares.
+-- Of the two scores Sum and Shares: within its two figures neither holds a total at its limit. Sum gives the sum of the
+-- penalties, and Shares the product of the shares.
 pub record Exact : Type 0 where
-  pub sums : (ps : List ℕ) → Taken sum-meaning ps → stepped sum-meaning 0 ps ≡ penalty-sum ps
-  pub products : (ps : List ℕ) → Taken shares-meaning ps → stepped shares-meaning 1 ps ≡ share-product ps
+  pub sums : (ps : List ℕ) → Taken sum-meaning ps → stepped sum-meaning (sum-meaning .start) ps ≡ penalty-sum ps
+  pub products : (ps : List ℕ) → Taken shares-meaning ps → stepped shares-meaning (shares-meaning .start) ps ≡ share-product ps

@@ -4,7 +4,8 @@ ghost use Rattle.scores.specs.Scores.{Meaning, Laws, better-by, stepped, sum-m
 
 pub trait Score {
     // The most cells and the highest penalty that the score takes. No clause can name an associated constant of a
-    // type parameter, so `cells_taken` and `penalty_taken` answer the two and tie them to the meaning.
+    // type parameter: the contracts of `cells_taken` and `penalty_taken` tie what these answer to the meaning, each
+    // score writes them as its constants, and generic code reads the functions.
     const MOST_CELLS: usize;
 
     const HIGHEST_PENALTY: u16;
@@ -104,7 +105,8 @@ pub fn better<S: Score>(a: u64, b: u64) -> bool
     S::no_worse(a, b) && !S::no_worse(b, a)
 }
 
-// The total of a row of penalties, the first one's step first. Within the two figures of a score it is exact.
+// The total of a row of penalties, the first one's step first. Under `Sum` and `Shares` it is exact within the
+// score's two figures.
 pub fn total<S: Score>(penalties: &[u16]) -> u64
     ensures value { λ r. ⌜ r ≡ stepped (S·Score .meaning) (S·Score .meaning .start) (now (penalties .entry)) ⌝ }
     ensures exact { λ _. ⌜ Exact ⌝ }

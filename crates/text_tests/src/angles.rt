@@ -20,7 +20,7 @@ fn latitudes() -> Result<(), Fail> {
         check(Latitude.is_admitted(text))?;
         check(Latitude.is_allowed(text))?;
     }
-    let others: [&[u8]; 12] = [
+    let others: [&[u8]; 13] = [
         b"9000001N",
         b"9000001S",
         b"9100000N",
@@ -28,6 +28,7 @@ fn latitudes() -> Result<(), Fail> {
         b"5060000N",
         b"5012345E",
         b"5012345n",
+        b"501234:N",
         b"501234N",
         b"50123456N",
         b"5012345",
@@ -46,8 +47,9 @@ fn openings_of_latitudes() -> Result<(), Fail> {
     for opening in allowed {
         check(Latitude.is_allowed(opening))?;
     }
-    let others: [&[u8]; 7] = [
+    let others: [&[u8]; 8] = [
         b"N",
+        b"50/",
         b"91",
         b"906",
         b"501234N",

@@ -37,7 +37,7 @@ fn days_of_the_calendar() -> Result<(), Fail> {
 
 #[test]
 fn no_days_of_the_calendar() -> Result<(), Fail> {
-    let others: [&[u8; 8]; 20] = [
+    let others: [&[u8; 8]; 22] = [
         b"29021900",
         b"29021903",
         b"29022099",
@@ -56,6 +56,8 @@ fn no_days_of_the_calendar() -> Result<(), Fail> {
         b"99999999",
         b" 1011999",
         b"0101199x",
+        b"0101199:",
+        b"1/011999",
         b"01/01/99",
         b"1999AUG1",
     ];

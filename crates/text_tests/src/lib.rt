@@ -6,6 +6,8 @@ mod dates;
 #[cfg(test)]
 mod lines;
 #[cfg(test)]
+mod numerals;
+#[cfg(test)]
 mod pairs;
 #[cfg(test)]
 mod plots;

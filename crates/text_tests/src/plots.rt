@@ -26,6 +26,34 @@ fn a_plotted_mark() -> Result<(), Fail> {
     )
 }
 
+// 5,400,000 is 005265C0, 10,800,000 is 00A4CB80 and 10,799,999 is 00A4CB7F.
+#[test]
+fn marks_at_the_ends_of_the_ranges() -> Result<(), Fail> {
+    let cases: [(&[u8], [u8; 8]); 2] = [
+        (
+            b"9000000S18000000E",
+            [0xff, 0xad, 0x9a, 0x40, 0x00, 0xa4, 0xcb, 0x80],
+        ),
+        (
+            b"0000001S17959999W",
+            [0xff, 0xff, 0xff, 0xff, 0xff, 0x5b, 0x34, 0x81],
+        ),
+    ];
+    for (text, bytes) in cases {
+        let mut place = [7; 8];
+        let Ok(proposal) = propose(text) else {
+            return Err(Fail::new("refused"));
+        };
+        let count = match proposal.confirm().plot(&mut place) {
+            Ok(count) => count,
+            Err((_, _mark)) => unreachable(),
+        };
+        check_eq(count, 8)?;
+        check_eq(&place[0..8], &bytes[0..8])?;
+    }
+    Ok(())
+}
+
 #[test]
 fn a_rejected_mark() -> Result<(), Fail> {
     let Ok(proposal) = propose(b"9000000S18000000E") else {

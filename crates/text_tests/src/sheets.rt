@@ -28,20 +28,26 @@ fn table(south: i32, north: i32, west: i32, east: i32) -> Sheet {
 fn positions_on_a_sheet() -> Result<(), Fail> {
     let sheet = table(2_940_000, 3_060_000, -360_000, -120_000);
     check_eq(check_number(sheet.check()), 0)?;
-    let inside: [&[u8]; 3] = [
+    let inside: [&[u8]; 5] = [
         b"5012345N00412345W",
         b"4900000N00600000W",
         b"5100000N00200000W",
+        b"5100000N00600000W",
+        b"4900000N00200000W",
     ];
     for text in inside {
         check(sheet.is_admitted(text))?;
         check(sheet.is_allowed(text))?;
     }
-    let outside: [&[u8]; 6] = [
+    let outside: [&[u8]; 10] = [
         b"5100001N00412345W",
         b"4859999N00412345W",
         b"5012345N00600001W",
         b"5012345N00159999W",
+        b"5100001N00600000W",
+        b"5100000N00600001W",
+        b"4859999N00200000W",
+        b"4900000N00159999W",
         b"5012345N00412345X",
         b"xxxxxxxxxxxxxxxxx",
     ];
@@ -103,4 +109,23 @@ fn combined_grammars() -> Result<(), Fail> {
     check(!entry.is_admitted(b"290220005012345N00412345E"))?;
     check(entry.is_allowed(b"290220005012345N00412345"))?;
     check(!entry.is_allowed(b"290220005012345N181"))
+}
+
+#[test]
+fn cuts() -> Result<(), Fail> {
+    let early = Then {
+        cut: 4,
+        head: Date,
+        tail: Latitude,
+    };
+    check(early.is_allowed(b"2902"))?;
+    check(!early.is_allowed(b"29020"))?;
+    let at_once = Then {
+        cut: 0,
+        head: Date,
+        tail: Latitude,
+    };
+    check(at_once.is_allowed(b""))?;
+    check(!at_once.is_allowed(b"5"))?;
+    check(!at_once.is_admitted(b"5012345N"))
 }
