@@ -1,11 +1,12 @@
 -- What is said of a fault, in words. Assumes nothing.
 use mathlib.Core.Bool.{cond}
 use mathlib.Core.List.{List, [], _∷_, _++_}
-use Prim.Native.Nat.{ℕ, _+_, _-_, _*_, _/_, _%_}
+use Prim.Native.Nat.{ℕ, _+_, _-_, _/_, _%_}
 use lib.Chars.{codes}
 use lib.Dec.{ltb}
 use lib.ListN.{length, getD}
 use Rattle.std.specs.Written.{decimal}
+use Rattle.pages.specs.Laws.{penalty-of}
 use Rattle.pages.specs.declared.faults.CountFault.{CountFault}
 use Rattle.pages.specs.declared.faults.CountFault.the-variants as count
 use Rattle.pages.specs.declared.faults.AlternativeFault.{AlternativeFault}
@@ -24,12 +25,9 @@ hex-digit n = cond (ltb n 10) (48 + n) (87 + n)
 abbrev pub hex : ℕ → List ℕ
 hex byte = hex-digit (byte / 16) ∷ hex-digit (byte % 16) ∷ []
 
--- a byte of the page, and the penalty of two bytes whose high byte stands at a place; 0 where the page has none
+-- a byte of the page; 0 where the page has none
 abbrev pub byte-at : List ℕ → ℕ → ℕ
 byte-at bytes at = getD bytes at 0
-
-abbrev pub penalty-from : List ℕ → ℕ → ℕ
-penalty-from bytes at = getD bytes at 0 * 256 + getD bytes (at + 1) 0
 
 -- why a count of what is named is refused
 abbrev pub count-words : List ℕ → List ℕ → ℕ → CountFault → List ℕ
@@ -44,7 +42,7 @@ alternative-words bytes (alternative.Symbol at) =
     codes "symbol 0x" ++ (hex (byte-at bytes at) ++ cond (ltb (byte-at bytes at) 33) (codes " is below 33") (codes " is above 126"))
 alternative-words bytes (alternative.Twice at) = codes "symbol 0x" ++ (hex (byte-at bytes at) ++ codes " comes twice")
 alternative-words bytes (alternative.Order at) =
-    codes "penalty " ++ (decimal (penalty-from bytes at) ++ (codes " is below the one before, " ++ decimal (penalty-from bytes (at - 3))))
+    codes "penalty " ++ (decimal (penalty-of bytes at) ++ (codes " is below the one before, " ++ decimal (penalty-of bytes (at - 3))))
 
 abbrev pub cell-words : List ℕ → CellFault → List ℕ
 cell-words bytes (cell.Count f) = count-words bytes (codes "alternatives") 8 f

@@ -3,7 +3,8 @@ ghost use mathlib.Core.Path.{_≡_};
 ghost use Prim.Native.Nat.{_<_};
 ghost use Rattle.std.specs.Of.String.{string-bytes};
 ghost use Rattle.std.specs.Vec.{made};
-ghost use Rattle.reports.specs.Words.{hex-digit, hex as hex-of, byte-at, penalty-from, count-words, alternative-words, cell-words, line-words, page-words};
+ghost use Rattle.pages.specs.Laws.{penalty-of};
+ghost use Rattle.reports.specs.Words.{hex-digit, hex as hex-of, byte-at, count-words, alternative-words, cell-words, line-words, page-words};
 use pages::AlternativeFault;
 use pages::CellFault;
 use pages::CountFault;
@@ -47,7 +48,7 @@ fn byte_of(page: &[u8], place: usize) -> u8
 
 // The penalty whose high byte stands at a place.
 fn penalty_of(page: &[u8], place: usize) -> u16
-    ensures { λ r. ⌜ r ≡ penalty-from (now (page .entry)) place ⌝ }
+    ensures { λ r. ⌜ r ≡ penalty-of (now (page .entry)) place ⌝ }
 {
     let Some(high) = page.get(place) else {
         return 0;

@@ -6,7 +6,8 @@ use lib.Dec.{ltb}
 use Rattle.std.specs.Written.{decimal}
 use Rattle.std.proofs.shelf.Results.{made-weaker}
 use Rattle.std.proofs.shelf.Tests.{cond-true, cond-false, lt-ltb, le-ltb}
-use Rattle.reports.specs.Words.{hex, byte-at, penalty-from, alternative-words}
+use Rattle.pages.specs.Laws.{penalty-of}
+use Rattle.reports.specs.Words.{hex, byte-at, alternative-words}
 use Rattle.reports.proofs.words.explain_alternative.Needs as need
 
 -- a symbol's digits, with what stands behind them
@@ -50,7 +51,7 @@ returns c =
     (λ s e.
     e
     ∙ ap (λ n. codes "penalty " ++ (decimal n ++ (codes " is below the one before, " ++ decimal (c .penalty-of-before .result)))) (c .penalty-of-penalty .ensures)
-    ∙ ap (λ n. codes "penalty " ++ (decimal (penalty-from (c .args .page .now) (c .in-Order .place)) ++ (codes " is below the one before, " ++ decimal n)))
-    (c .penalty-of-before .ensures ∙ ap (penalty-from (c .args .page .now)) (c .saturating-sub .ensures))
+    ∙ ap (λ n. codes "penalty " ++ (decimal (penalty-of (c .args .page .now) (c .in-Order .place)) ++ (codes " is below the one before, " ++ decimal n)))
+    (c .penalty-of-before .ensures ∙ ap (penalty-of (c .args .page .now)) (c .saturating-sub .ensures))
     ∙ ap (alternative-words (c .args .page .now)) (sym (c .in-Order .is)))
     (c .format-in-Order .ensures .made)
