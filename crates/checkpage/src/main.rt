@@ -1,4 +1,6 @@
 // Reads a page file from standard input, and prints what it holds or why it is refused.
+#![tactic(auto)]
+
 use anyhow::anyhow;
 use reports::report_page;
 use std::io::Read;

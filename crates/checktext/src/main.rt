@@ -1,6 +1,8 @@
 // Says of each line of standard input whether it is a date, a latitude, a longitude, a position on or off a
 // sheet of the chart, or a date and then a position on the sheet. The two arguments are the southwest and
 // the northeast corner of the sheet, each a position text.
+#![tactic(auto)]
+
 use anyhow::anyhow;
 use descriptions::{line, read_sheet};
 use grammars::sheet::Sheet;

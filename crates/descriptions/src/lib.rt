@@ -1,4 +1,6 @@
 // What a line of text is, for a sheet of the chart, and the words that say so.
+#![tactic(auto)]
+
 ghost use Rattle.std.specs.Prelude.{◌≡◌, ◌++◌, IfOk, string_bytes, codes};
 ghost use Rattle.positions.specs.Numerals.{numeral};
 ghost use Rattle.descriptions.specs.Kinds.{charted, entry, kind_read, kind_of, TrueOf, sheet_between};

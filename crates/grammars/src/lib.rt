@@ -1,4 +1,6 @@
 // Grammars: which texts are admitted, and which openings are allowed.
+#![tactic(auto)]
+
 ghost use Rattle.std.specs.Prelude.{◌≡◌, take};
 ghost use Rattle.grammars.specs.Grammars.{refusal, check_returns, Sets, Lawful, both, then_by};
 ghost use Rattle.std.proofs.lemmas.Bool.{and_parts, and_from};

@@ -1,5 +1,7 @@
 // Marks: a position is proposed, confirmed or rejected, and only a confirmed one is plotted.
 // A proposal and a confirmed mark are used up by their calls, and cannot be copied or dropped.
+#![tactic(auto)]
+
 ghost use Rattle.std.specs.Prelude.{◌≡◌, ◌++◌, length, take, drop, is_ok, IfOk, if◌then◌else◌};
 ghost use Rattle.marks.specs.Marks.{proposing, confirming, plotting, mark_bytes, plotted};
 

@@ -1,4 +1,6 @@
 // Tests of the page file, with values worked out by hand from its rules.
+#![tactic(auto)]
+
 #[cfg(test)]
 mod bounds;
 #[cfg(test)]

@@ -1,4 +1,6 @@
 // The page file: reads it line by line, refuses it exactly, and writes a line back to its bytes.
+#![tactic(auto)]
+
 mod faults;
 mod few;
 mod line_reader;

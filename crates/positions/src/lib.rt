@@ -1,4 +1,6 @@
 // Positions: a latitude and a longitude, as text and as signed thousandths of a minute.
+#![tactic(auto)]
+
 ghost use Rattle.std.specs.Prelude.{◌≡◌, ℕ, List, ◌++◌, length, take, drop, ℤ, is_ok, IfOk, if◌then◌else◌, Ok, MatchResult};
 ghost use Rattle.positions.specs.Positions.{refusal, is_position, reading, is_pair, position_text, writing, Says};
 

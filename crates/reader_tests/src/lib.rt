@@ -1,4 +1,6 @@
 // Tests of the reader through its runs, with answers worked out by hand from the rules.
+#![tactic(auto)]
+
 #[cfg(test)]
 mod answers;
 #[cfg(test)]

@@ -1,4 +1,6 @@
 // What is said of a page: how much each line holds, or what is wrong and where.
+#![tactic(auto)]
+
 mod report;
 mod words;
 

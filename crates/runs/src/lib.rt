@@ -1,4 +1,6 @@
 // Runs: any list of calls, made one after another on a new reader. The contract of `run` is the law of the reader.
+#![tactic(auto)]
+
 mod rows;
 mod running;
 

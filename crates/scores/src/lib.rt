@@ -1,4 +1,6 @@
 // Scores: how a total is made of penalties, and which of two totals is better.
+#![tactic(auto)]
+
 ghost use Rattle.std.specs.Prelude.{◌≡◌};
 ghost use Rattle.scores.specs.Scores.{Meaning, Laws, better_by, stepped, sum_meaning, shares_meaning, Exact};
 ghost use Rattle.std.proofs.Common.{rules};

@@ -1,5 +1,7 @@
 // Chains of a line: which are live, the order in which they stand, and how a search meets them in that order. The
 // definitions stand in specs/; a function here does nothing but name, in its contract, what is proved of them.
+#![tactic(auto)]
+
 ghost use Rattle.search.specs.BestFirst.{BestFirstOf};
 ghost use Rattle.search.specs.Theorems.{ChainsListed, TextTellsChain, StrictTotalOrder, RankingOfLiveChains, AdmissibleIsLive, LiveChainsGrow, ChildrenAreFew, BestFirstOfChains, FrontierIsSmall};
 

@@ -1,4 +1,6 @@
 // Tables of cases whose answers come from outside: calendar facts, and angles and bytes worked out by hand.
+#![tactic(auto)]
+
 #[cfg(test)]
 mod angles;
 #[cfg(test)]

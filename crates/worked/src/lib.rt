@@ -1,4 +1,6 @@
 // Worked readings: values worked out by hand, held against the definitions that the contracts of the other crates cite.
+#![tactic(auto)]
+
 ghost use Rattle.worked.specs.Worked.{WorkedReadings};
 
 // Does nothing: its contract is the list of worked readings, which so has to be proved.
