@@ -7,4 +7,4 @@ pub returns : goal.returns
 returns c =
     let t = c.args.sheet.now in
     let s = c.args.text.now in
-    record { value = c.plain-kind.ensures; holds = subst (TrueOf t s) (sym c.plain-kind.ensures) (true_of t s) }
+    record { value = c.plain_kind.ensures; holds = subst (TrueOf t s) (sym c.plain_kind.ensures) (true_of t s) }

@@ -8,6 +8,6 @@ use Rattle.descriptions.proofs.pair_words.Goals as goal
 pub returns : goal.returns
 unfolding pair_words
 returns c =
-    let north = c.in-ok-north.ensures ∙ ap (angle_words Latitude) (to_z-of_z w32 c.args.latitude c.ranges.latitude) in
-    let east = c.in-ok-east.ensures ∙ ap (angle_words Longitude) (to_z-of_z w32 c.args.longitude c.ranges.longitude) in
+    let north = c.in_ok-north.ensures ∙ ap (angle_words Latitude) (to_z-of_z w32 c.args.latitude c.ranges.latitude) in
+    let east = c.in_ok-east.ensures ∙ ap (angle_words Longitude) (to_z-of_z w32 c.args.longitude c.ranges.longitude) in
     reworded c.format.result _ _ (λ i. north i ++ (codes " " ++ east i)) c.format.ensures.ok

@@ -4,8 +4,8 @@ use Rattle.positions.specs.Positions.{reading}
 use Rattle.positions.proofs.Round.{Said, said}
 use Rattle.positions.proofs.read_position.Goals as goal
 
-pub returns-then-not-is-position : goal.returns-then-not-is-position
-returns-then-not-is-position c =
+pub returns-then-not-is_position : goal.returns-then-not-is_position
+returns-then-not-is_position c =
     let s = c.args.text.now in
     let read : Err Position ≡ reading s = search rules in
     record { answer = read; said = subst (Said s) (sym read) (said s) }

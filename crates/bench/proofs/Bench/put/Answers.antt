@@ -16,5 +16,5 @@ pub returns : goal.returns
 returns g c =
     let told = c.in-Ok.ensures in
     holds_put g.S.Score.meaning (line_of c.args.line.now) c.args.self.now (record { places = c.push.new.self })
-    (record { total = c.total-of-total.result; ranks = c.args.ranks; score = _ })
-    c.requires.holds (λ o. told.items.1 o (c.requires.holds.ready o)) told.capacity told.items.0 c.requires.chain c.total-of-total.ensures
+    (record { total = c.total_of-total.result; ranks = c.args.ranks; score = _ })
+    c.requires.holds (λ o. told.items.1 o (c.requires.holds.ready o)) told.capacity told.items.0 c.requires.chain c.total_of-total.ensures

@@ -38,8 +38,8 @@ look-requires g c =
           c.loop-k.k c.args.granted c.loop-k.self c.loop-k.invariant.0 c.loop-k-test.true;
     }
 
-pub returns-in-default : goal.returns-in-default
-returns-in-default g c =
+pub returns-in_default : goal.returns-in_default
+returns-in_default g c =
     let s = g.S.Score.meaning in
     let sets = g.G.Grammar.meaning c.args.grammar.now in
     let line = c.args.line.now in
@@ -48,7 +48,7 @@ returns-in-default g c =
     let looked = c.args.looked in
     let granted = c.args.granted in
     let rk = ranking s sets.allows l in
-    let told = c.in-default.ensures in
+    let told = c.in_default.ensures in
     let end = look_ends s g.met.S.Score.laws sets (g.met.G.Grammar.laws c.args.grammar.now) l line.sound k granted c.loop-k.self c.loop-k.invariant.0 told.0 in
     let all : take (k - looked) (drop looked rk) ≡ take (granted - looked) (drop looked rk) =
     take_all (k - looked) (drop looked rk) (omega (arith, length-drop looked rk)) ∙ sym (take_all (granted - looked) (drop looked rk) (omega (arith, length-drop looked rk, c.loop-k-test.true))) in
@@ -58,8 +58,8 @@ returns-in-default g c =
           ∙ ap (λ n. record { looked = n; reading = None }) (let last : min granted (length rk) ≡ k = omega (arith, c.loop-k-test.true) in last));
     }
 
-pub returns-then-is-admitted : goal.returns-then-is-admitted
-returns-then-is-admitted g c =
+pub returns-then-is_admitted : goal.returns-then-is_admitted
+returns-then-is_admitted g c =
     let s = g.S.Score.meaning in
     let sets = g.G.Grammar.meaning c.args.grammar.now in
     let line = c.args.line.now in
@@ -84,7 +84,7 @@ returns-then-is-admitted g c =
       sought = sym (ap (came_to s l looked granted (length rk)) (passes_first (admitted sets l) (k - looked) (due s sets l looked granted) seen.chain
           (subst (All (λ d. admitted sets l d ≡ false)) (sym (take-take (k - looked) (granted - looked) (drop looked rk) short)) c.loop-k.invariant.1)
           (here_in (λ d. admitted sets l d ≡ false) rk looked k le granted seen.chain lt next.1)
-          (sym (c.if-is-admitted.ensures ∙ asked)))
+          (sym (c.if-is_admitted.ensures ∙ asked)))
           ∙ (λ i. record { looked = last i; reading = Some (sym seen.reads i) }));
     }
 
@@ -106,7 +106,7 @@ loop-k-preserved g c =
     let cells : length c.cells.result.now - 0 ≡ length l = omega (arith, as_many line c.cells.result.now c.cells.ensures.items) in (
       look_agrees s laws sets lawful l line.sound k granted c.loop-k.self c.look.new.self c.in-Some.reading c.loop-k.invariant.0 seen c.loop-k-test.true,
       passed_more (λ d. admitted sets l d ≡ false) rk looked k c.loop-k.auto.k seen.chain next.1 c.loop-k.invariant.1
-          (sym (c.if-is-admitted.ensures ∙ asked_of s sets line seen.chain c.in-Some.reading (length c.cells.result.now - 0) cells chain seen.reads)),
+          (sym (c.if-is_admitted.ensures ∙ asked_of s sets line seen.chain c.in-Some.reading (length c.cells.result.now - 0) cells chain seen.reads)),
     )
 
 pub returns : goal.returns

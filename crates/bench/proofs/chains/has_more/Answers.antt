@@ -3,8 +3,8 @@ use Rattle.pages.specs.Answers.{line_of}
 use Rattle.bench.proofs.Lines.{as_many, cell_at}
 use Rattle.bench.proofs.chains.has_more.Goals as goal
 
-pub offset-bounds-cells-cell : goal.offset-bounds-cells-cell
-offset-bounds-cells-cell c = omega (arith, as_many c.args.line.now c.cells.result.now c.cells.ensures.items, c.cells.ensures.few, c.requires)
+pub offset_bounds-cells-cell : goal.offset_bounds-cells-cell
+offset_bounds-cells-cell c = omega (arith, as_many c.args.line.now c.cells.result.now c.cells.ensures.items, c.cells.ensures.few, c.requires)
 
 pub bounds-cells-cell : goal.bounds-cells-cell
 bounds-cells-cell c = omega (arith, as_many c.args.line.now c.cells.result.now c.cells.ensures.items, c.requires)

@@ -7,8 +7,8 @@ use Rattle.bench.proofs.Lines.{as_many, few_cells}
 use Rattle.bench.proofs.Texts.{rank_fits, symbol_is, text_long, spelt_more, spelt_all}
 use Rattle.bench.proofs.chains.text_of.Goals as goal
 
-pub taken-in-requires : goal.taken-in-requires
-taken-in-requires c =
+pub taken_in-requires : goal.taken_in-requires
+taken_in-requires c =
     let line = c.args.line.now in
     let inside : c.loop-cell.cell < length (line_of line) = omega (arith, as_many line c.cells-cell-end.result.now c.cells-cell-end.ensures.items, c.loop-cell-test.true) in
     record {
@@ -26,10 +26,10 @@ loop-cell-preserved c =
     let inside : i < length l = omega (arith, as_many line c.cells-cell-end.result.now c.cells-cell-end.ensures.items, c.loop-cell-test.true) in
     let few = few_cells l line.sound in
     let long : length (replicate {A = ℕ} 24 0) ≡ 24 = refl in
-    spelt_more (text l chain) (replicate 24 0) c.loop-cell.text i c.taken-in.result.symbol c.loop-cell.invariant
+    spelt_more (text l chain) (replicate 24 0) c.loop-cell.text i c.taken_in.result.symbol c.loop-cell.invariant
     (omega (arith, text_long l chain c.requires.long))
     (omega (arith, c.loop-cell.invariant.long))
-    (ap (λ a. a.symbol) c.taken-in.ensures ∙ ap (λ r. (get_or (get_or l i []) r no_alt).symbol) c.rank.ensures.value ∙ sym (symbol_is l ranks c.requires i inside))
+    (ap (λ a. a.symbol) c.taken_in.ensures ∙ ap (λ r. (get_or (get_or l i []) r no_alt).symbol) c.rank.ensures.value ∙ sym (symbol_is l ranks c.requires i inside))
 
 pub returns : goal.returns
 returns c =

@@ -8,8 +8,8 @@ use Rattle.bench.proofs.Lines.{as_many}
 use Rattle.bench.proofs.Texts.{rank_fits, penalty_is, penalties_long, stepped_more}
 use Rattle.bench.proofs.chains.total_of.Goals as goal
 
-pub taken-in-requires : goal.taken-in-requires
-taken-in-requires g c =
+pub taken_in-requires : goal.taken_in-requires
+taken_in-requires g c =
     let line = c.args.line.now in
     let inside : c.loop-cell.cell < length (line_of line) = omega (arith, as_many line c.cells-cell-end.result.now c.cells-cell-end.ensures.items, c.loop-cell-test.true) in
     record {
@@ -26,7 +26,7 @@ loop-cell-preserved g c =
     let ps = penalties l (chain_in l c.args.ranks.now) in
     let i = c.loop-cell.cell in
     let inside : i < length l = omega (arith, as_many line c.cells-cell-end.result.now c.cells-cell-end.ensures.items, c.loop-cell-test.true) in
-    let next = ap (λ a. a.penalty) c.taken-in.ensures ∙ ap (λ r. (get_or (get_or l i []) r no_alt).penalty) c.rank.ensures.value ∙ sym (penalty_is l ranks c.requires i inside) in
+    let next = ap (λ a. a.penalty) c.taken_in.ensures ∙ ap (λ r. (get_or (get_or l i []) r no_alt).penalty) c.rank.ensures.value ∙ sym (penalty_is l ranks c.requires i inside) in
     c.step-total.ensures
     ∙ (λ k. s.step (c.loop-cell.invariant k) (next k))
     ∙ sym (stepped_more s s.start ps i (omega (arith, penalties_long l (chain_in l c.args.ranks.now) c.requires.long)))

@@ -8,4 +8,4 @@ pub returns : goal.returns
 returns c =
     let s = c.args.opening.now in
     let e : c.min.result - 0 ≡ min (length s) (figures_of c.args.axis + 5) = omega arith in
-    c.all-digits.ensures ∙ ap (λ n. digits (take n s)) e ∙ ap digits (take_most (figures_of c.args.axis + 5) s)
+    c.all_digits.ensures ∙ ap (λ n. digits (take n s)) e ∙ ap digits (take_most (figures_of c.args.axis + 5) s)

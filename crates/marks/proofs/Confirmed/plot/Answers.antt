@@ -12,12 +12,12 @@ returns c =
     let p = c.args.place.now in
     let fits-y : SFits w32 m.latitude = search rules in
     let fits-x : SFits w32 m.longitude = search rules in
-    let y = c.copy-from-slice.new.self in
-    let x = c.copy-from-slice-2.new.self in
+    let y = c.copy_from_slice.new.self in
+    let x = c.copy_from_slice-2.new.self in
     let y-is : y ≡ word_bytes (word m.latitude) =
-    c.copy-from-slice.ensures.after ∙ c.to-be-bytes.ensures ∙ ap (λ z. word_bytes (of_z w32 z)) (to_z-of_z w32 m.latitude fits-y) ∙ ap word_bytes (bits_are m.latitude) in
+    c.copy_from_slice.ensures.after ∙ c.to_be_bytes.ensures ∙ ap (λ z. word_bytes (of_z w32 z)) (to_z-of_z w32 m.latitude fits-y) ∙ ap word_bytes (bits_are m.latitude) in
     let x-is : x ≡ word_bytes (word m.longitude) =
-    c.copy-from-slice-2.ensures.after ∙ c.to-be-bytes-2.ensures ∙ ap (λ z. word_bytes (of_z w32 z)) (to_z-of_z w32 m.longitude fits-x) ∙ ap word_bytes (bits_are m.longitude) in
+    c.copy_from_slice-2.ensures.after ∙ c.to_be_bytes-2.ensures ∙ ap (λ z. word_bytes (of_z w32 z)) (to_z-of_z w32 m.longitude fits-x) ∙ ap word_bytes (bits_are m.longitude) in
     let written = put_next 4 4 y (drop 4 p) x (ap length y-is) ∙ (λ i. (y-is i ++ x-is i) ++ drop-drop 4 4 p i) in
     record {
       answer = search rules;

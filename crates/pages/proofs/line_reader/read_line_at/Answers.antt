@@ -13,7 +13,7 @@ use Rattle.pages.proofs.Steps.{between_at, within_at, opened, no_line, enter, ba
 use Rattle.pages.proofs.Shape.{WellFormedLine, line_from}
 use Rattle.pages.proofs.Round.{line_read}
 use Rattle.pages.proofs.line_reader.read_line_at.Goals as goal
-use Rattle.pages.proofs.line_reader.read_line_at.Goals.{at·returns, In-ok-outcome, else-cells-test, then-cells-test+in-Err, then-cells-test+in-Ok+then-loop-test+in-Err-read-alternative}
+use Rattle.pages.proofs.line_reader.read_line_at.Goals.{at·returns, In_ok-outcome, else-cells-test, then-cells-test+in-Err, then-cells-test+in-Ok+then-loop-test+in-Err-read_alternative}
 
 -- a refusal says nothing of a line
 refused : (r : Result (Line × ℕ) LineFault) (bytes : List ℕ) (at : ℕ) {f : LineFault} → r ≡ Err f → read_line bytes at ≡ Err f
@@ -21,14 +21,14 @@ refused : (r : Result (Line × ℕ) LineFault) (bytes : List ℕ) (at : ℕ) {f 
 refused r bytes at e h =
     record { answer = subst (λ x. LineRead x bytes at) (sym e) h; same_bytes = subst (λ x. IfOk x (λ got. Stands bytes at (line_bytes (line_of got.0)) got.1)) (sym e) tt }
 
-pub returns-in-err-count : goal.returns-in-err-count
-returns-in-err-count c =
-    let up = err_from_is_err_and c.from-residual.result c.from-residual.ensures.1 in
-    refused c.from-residual.result c.args.bytes.now c.args.at (up.1 ∙ ap Err up.2) (no_line c.args.bytes.now c.args.at _ (sym c.in-err-count.ensures))
+pub returns-in_err-count : goal.returns-in_err-count
+returns-in_err-count c =
+    let up = err_from_is_err_and c.from_residual.result c.from_residual.ensures.1 in
+    refused c.from_residual.result c.args.bytes.now c.args.at (up.1 ∙ ap Err up.2) (no_line c.args.bytes.now c.args.at _ (sym c.in_err-count.ensures))
 
 pub cells-init : goal.cells-init
 cells-init c = (
-  between_at (ap (map cell_of) c.new-cells.ensures) (opened c.args.bytes.now c.args.at c.in-ok-count.count (sym c.in-ok-count.ensures)),
+  between_at (ap (map cell_of) c.new-cells.ensures) (opened c.args.bytes.now c.args.at c.in_ok-count.count (sym c.in_ok-count.ensures)),
   ap length c.new-cells.ensures,
 )
 
@@ -46,58 +46,58 @@ push-requires c =
 
 pub push-requires-in-cells : goal.push-requires-in-cells
 push-requires-in-cells c =
-    let few = (counts 24 c.args.bytes.now c.args.at c.in-ok-count.count (sym c.in-ok-count.ensures)).high in
+    let few = (counts 24 c.args.bytes.now c.args.at c.in_ok-count.count (sym c.in_ok-count.ensures)).high in
     let long = c.cells.invariant.1 in
     (lit< tt, omega (arith, c.cells-test.true))
 
 pub loop-preserved : goal.loop-preserved
 loop-preserved c = (
   within_at c.push.ensures
-      (more c.in-Ok.due c.loop.counter c.loop.invariant.0 c.in-Ok-read-alternative.alternative c.loop-test.true
-      (ap (read_alternative c.args.bytes.now c.loop.place) (sym c.alternatives.ensures.items) ∙ sym c.in-Ok-read-alternative.ensures)),
-  ap length c.push.ensures ∙ length_push (cell_of c.loop.cell) c.in-Ok-read-alternative.alternative ∙ ap (λ n. n + 1) c.loop.invariant.1,
+      (more c.in-Ok.due c.loop.counter c.loop.invariant.0 c.in-Ok-read_alternative.alternative c.loop-test.true
+      (ap (read_alternative c.args.bytes.now c.loop.place) (sym c.alternatives.ensures.items) ∙ sym c.in-Ok-read_alternative.ensures)),
+  ap length c.push.ensures ∙ length_push (cell_of c.loop.cell) c.in-Ok-read_alternative.alternative ∙ ap (λ n. n + 1) c.loop.invariant.1,
 )
 
 pub cells-preserved : goal.cells-preserved
 cells-preserved c = (
   between_at (ap (map cell_of) c.push-in-cells.ensures ∙ map_push cell_of (few_items c.cells.cells) c.loop.cell)
-      (leave c.in-Ok.due c.loop.counter c.loop.invariant.0 c.in-ok-count.count refl c.loop-test.false),
+      (leave c.in-Ok.due c.loop.counter c.loop.invariant.0 c.in_ok-count.count refl c.loop-test.false),
   ap length c.push-in-cells.ensures ∙ length_push (few_items c.cells.cells) c.loop.cell ∙ ap (λ n. n + 1) c.cells.invariant.1,
 )
 
-pub returns-in-err-outcome : goal.returns-in-err-outcome
-returns-in-err-outcome c =
-    let up = err_from_is_err_and c.from-residual-in-err-outcome.result c.from-residual-in-err-outcome.ensures.1 in
-    let e = c.in-err-outcome.field-0.0 in
-    let was = c.in-err-outcome.was in
-    refused c.from-residual-in-err-outcome.result c.args.bytes.now c.args.at (up.1 ∙ ap Err up.2)
+pub returns-in_err-outcome : goal.returns-in_err-outcome
+returns-in_err-outcome c =
+    let up = err_from_is_err_and c.from_residual-in_err-outcome.result c.from_residual-in_err-outcome.ensures.1 in
+    let e = c.in_err-outcome.field-0.0 in
+    let was = c.in_err-outcome.was in
+    refused c.from_residual-in_err-outcome.result c.args.bytes.now c.args.at (up.1 ∙ ap Err up.2)
     (elim c.cells-test.branch [
       | else-cells-test w ↦ absurd (not_both e was (w.outcome-is ∙ c.cells.invariant.0.sound))
       | then-cells-test+in-Err w ↦
           left_with e c.cells.number w.from.result _ was w.outcome-is w.from.ensures
           (bad_count c.cells.invariant.0 _ w.cells-test.true (sym w.in-Err.ensures))
-      | then-cells-test+in-Ok+then-loop-test+in-Err-read-alternative w ↦
-          left_with e c.cells.number w.from-in-Err-read-alternative.result _ was w.outcome-is w.from-in-Err-read-alternative.ensures
+      | then-cells-test+in-Ok+then-loop-test+in-Err-read_alternative w ↦
+          left_with e c.cells.number w.from-in-Err-read_alternative.result _ was w.outcome-is w.from-in-Err-read_alternative.ensures
           (bad_alternative w.in-Ok.due w.loop.counter w.loop.invariant.0 _ w.loop-test.true
-          (ap (read_alternative c.args.bytes.now w.loop.place) (sym w.alternatives.ensures.items) ∙ sym w.in-Err-read-alternative.ensures))
+          (ap (read_alternative c.args.bytes.now w.loop.place) (sym w.alternatives.ensures.items) ∙ sym w.in-Err-read_alternative.ensures))
     ])
 
 -- the line that was read
-read : (c : goal.In-ok-outcome) → read_line c.args.bytes.now c.args.at ≡ Ok (cells_in c.cells.cells, c.cells-test.place)
+read : (c : goal.In_ok-outcome) → read_line c.args.bytes.now c.args.at ≡ Ok (cells_in c.cells.cells, c.cells-test.place)
 read c =
     elim c.cells-test.branch [
       | else-cells-test w ↦ ended c.cells.invariant.0 w.cells-test.false ∙ ap (λ n. Ok (cells_in c.cells.cells, n)) (sym w.place-is)
-      | then-cells-test+in-Err w ↦ absurd (not_both _ w.outcome-is c.in-ok-outcome.was)
-      | then-cells-test+in-Ok+then-loop-test+in-Err-read-alternative w ↦ absurd (not_both _ w.outcome-is c.in-ok-outcome.was)
+      | then-cells-test+in-Err w ↦ absurd (not_both _ w.outcome-is c.in_ok-outcome.was)
+      | then-cells-test+in-Ok+then-loop-test+in-Err-read_alternative w ↦ absurd (not_both _ w.outcome-is c.in_ok-outcome.was)
     ]
 
 -- is well-formed, and its bytes stand there
-stands : (c : goal.In-ok-outcome)
+stands : (c : goal.In_ok-outcome)
     → WellFormedLine (cells_in c.cells.cells) × Stands c.args.bytes.now c.args.at (line_bytes (cells_in c.cells.cells)) c.cells-test.place
-stands c = line_read c.args.bytes.now c.args.at _ _ (λ i. (c.type-inv.bytes i).fits) (read c)
+stands c = line_read c.args.bytes.now c.args.at _ _ (λ i. (c.type_inv.bytes i).fits) (read c)
 
-pub invariant-of-result : goal.invariant-of-result
-invariant-of-result c = (line_from (cells_in c.cells.cells) (stands c).0, tt)
+pub invariant_of-result : goal.invariant_of-result
+invariant_of-result c = (line_from (cells_in c.cells.cells) (stands c).0, tt)
 
 pub returns : goal.returns
-returns c = let d = (at·returns c).In-ok-outcome in record { answer = read d; same_bytes = (stands d).1 }
+returns c = let d = (at·returns c).In_ok-outcome in record { answer = read d; same_bytes = (stands d).1 }

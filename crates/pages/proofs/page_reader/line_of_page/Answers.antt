@@ -21,39 +21,39 @@ at_fault r bytes wanted {f} all e h =
       first_wrong = subst (λ x. IfErr x (FirstWrong bytes)) (sym e) (first_wrong bytes f all (sym h));
     }
 
-pub returns-in-err-lines : goal.returns-in-err-lines
-returns-in-err-lines c =
-    let up = err_from_is_err_and c.from-residual.result c.from-residual.ensures.1 in
-    at_fault c.from-residual.result c.args.bytes.now c.args.wanted (λ i. (c.type-inv.bytes i).fits) (up.1 ∙ ap Err up.2) (sym c.in-err-lines.ensures.1)
+pub returns-in_err-lines : goal.returns-in_err-lines
+returns-in_err-lines c =
+    let up = err_from_is_err_and c.from_residual.result c.from_residual.ensures.1 in
+    at_fault c.from_residual.result c.args.bytes.now c.args.wanted (λ i. (c.type_inv.bytes i).fits) (up.1 ∙ ap Err up.2) (sym c.in_err-lines.ensures.1)
 
 pub loop-line-init : goal.loop-line-init
 loop-line-init c =
-    record { lines = []; long = refl; passing = pass_none c.args.bytes.now c.in-ok-lines.lines c.in-ok-lines.ensures; kept = refl }
+    record { lines = []; long = refl; passing = pass_none c.args.bytes.now c.in_ok-lines.lines c.in_ok-lines.ensures; kept = refl }
 
 -- what is known where a line was met
-passing : (c : goal.Joined-number-wanted) → Passed c.in-Some.line c.loop-line.lines c.next-line.new.self
-passing c = subst (λ o. NextLine (Ok o) c.loop-line.lines c.next-line.new.self) c.in-Some.is c.in-ok-line.ensures.answer
+passing : (c : goal.Joined-number-wanted) → Passed c.in-Some.line c.loop-line.lines c.next_line.new.self
+passing c = subst (λ o. NextLine (Ok o) c.loop-line.lines c.next_line.new.self) c.in-Some.is c.in_ok-line.ensures.answer
 
-pub overflow-add-number : goal.overflow-add-number
-overflow-add-number c = omega (arith, c.loop-line.invariant.long, pass_below c.loop-line.invariant.passing c.in-Some.line c.next-line.new.self (passing c))
+pub overflow_add-number : goal.overflow_add-number
+overflow_add-number c = omega (arith, c.loop-line.invariant.long, pass_below c.loop-line.invariant.passing c.in-Some.line c.next_line.new.self (passing c))
 
 pub loop-line-preserved : goal.loop-line-preserved
 loop-line-preserved c =
-    keep_more c.loop-line.invariant c.in-Some.line c.next-line.new.self c.if-number-wanted.found (passing c)
-    (subst (λ o. Ahead (Ok o) c.loop-line.lines c.next-line.new.self) c.in-Some.is c.in-ok-line.ensures.ahead)
+    keep_more c.loop-line.invariant c.in-Some.line c.next_line.new.self c.if-number-wanted.found (passing c)
+    (subst (λ o. Ahead (Ok o) c.loop-line.lines c.next_line.new.self) c.in-Some.is c.in_ok-line.ensures.ahead)
     (λ e. elim c.if-number-wanted.branch [ then-number-wanted w ↦ w.found-is | else-number-wanted w ↦ absurd (w.if-number-wanted.false e) ])
     (λ ne. elim c.if-number-wanted.branch [ then-number-wanted w ↦ absurd (ne w.if-number-wanted.true) | else-number-wanted w ↦ w.found-is ])
 
 pub loop-line-smaller : goal.loop-line-smaller
 loop-line-smaller c = let p = passing c in omega (arith, p.due, p.one, p.lines)
 
-pub returns-in-err-line : goal.returns-in-err-line
-returns-in-err-line c =
-    let up = err_from_is_err_and c.from-residual-in-err-line.result c.from-residual-in-err-line.ensures.1 in
-    at_fault c.from-residual-in-err-line.result c.args.bytes.now c.args.wanted (λ i. (c.type-inv.bytes i).fits) (up.1 ∙ ap Err up.2) (sym (pass_bad c.loop-line.invariant.passing c.in-err-line.ensures.ahead))
+pub returns-in_err-line : goal.returns-in_err-line
+returns-in_err-line c =
+    let up = err_from_is_err_and c.from_residual-in_err-line.result c.from_residual-in_err-line.ensures.1 in
+    at_fault c.from_residual-in_err-line.result c.args.bytes.now c.args.wanted (λ i. (c.type_inv.bytes i).fits) (up.1 ∙ ap Err up.2) (sym (pass_bad c.loop-line.invariant.passing c.in_err-line.ensures.ahead))
 
 pub returns : goal.returns
 returns c =
     let end : ahead c.loop-line.lines ≡ Ok [] =
-    subst (λ o. Ahead (Ok o) c.loop-line.lines c.next-line.new.self) c.in-default.is c.in-ok-line.ensures.ahead in
-    record { answer = keep_all c.loop-line.invariant end; accepted = accepted_exactly c.args.bytes.now (λ i. (c.type-inv.bytes i).fits); first_wrong = tt }
+    subst (λ o. Ahead (Ok o) c.loop-line.lines c.next_line.new.self) c.in_default.is c.in_ok-line.ensures.ahead in
+    record { answer = keep_all c.loop-line.invariant end; accepted = accepted_exactly c.args.bytes.now (λ i. (c.type_inv.bytes i).fits); first_wrong = tt }

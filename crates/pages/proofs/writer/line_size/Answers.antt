@@ -7,8 +7,8 @@ in-turn c =
     held c.args.line.now c.cells-cell-items.result.now c.loop-cell.cell-index _ c.alternatives.result.now
     c.cells-cell-items.ensures.items c.loop-cell-test.true c.alternatives.ensures.items
 
-pub overflow-add-size-in-loop-cell : goal.overflow-add-size-in-loop-cell
-overflow-add-size-in-loop-cell c = omega (arith, c.alternatives.ensures.few, c.cells-cell-items.ensures.few, c.loop-cell.invariant.small, c.loop-cell-test.true)
+pub overflow_add-size-in-loop-cell : goal.overflow_add-size-in-loop-cell
+overflow_add-size-in-loop-cell c = omega (arith, c.alternatives.ensures.few, c.cells-cell-items.ensures.few, c.loop-cell.invariant.small, c.loop-cell-test.true)
 
 pub loop-cell-preserved : goal.loop-cell-preserved
 loop-cell-preserved c = measured_more c.alternatives.result.now c.loop-cell.invariant (in-turn c).below (in-turn c).is c.alternatives.ensures.few

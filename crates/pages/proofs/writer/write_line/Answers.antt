@@ -7,23 +7,23 @@ use Rattle.pages.proofs.Shape.{line_parts}
 use Rattle.pages.proofs.Round.{reads_back}
 use Rattle.pages.proofs.writer.write_line.Goals as goal
 
-pub overflow-cast-place : goal.overflow-cast-place
-overflow-cast-place c = omega (arith, c.cells-cells.ensures.few)
+pub overflow_cast-place : goal.overflow_cast-place
+overflow_cast-place c = omega (arith, c.cells-cells.ensures.few)
 
 pub loop-cell-init : goal.loop-cell-init
 loop-cell-init c =
-    laid_from (opened c.args.line.now c.cells-cells.result.now c.args.place.now c.cells-cells.ensures.items (omega (arith, c.line-size.ensures, c.if-place-line-size.false)))
+    laid_from (opened c.args.line.now c.cells-cells.result.now c.args.place.now c.cells-cells.ensures.items (omega (arith, c.line_size.ensures, c.if-place-line_size.false)))
 
 pub bounds-place-at : goal.bounds-place-at
 bounds-place-at c =
     cell_room c.args.line.now c.cells-cells.result.now c.loop-cell.cell-index _ c.alternatives-alternatives.result.now
     c.cells-cells.ensures.items c.loop-cell-test.true c.alternatives-alternatives.ensures.items c.loop-cell.invariant
 
-pub overflow-cast-place-in-loop-cell : goal.overflow-cast-place-in-loop-cell
-overflow-cast-place-in-loop-cell c = omega (arith, c.alternatives-alternatives.ensures.few)
+pub overflow_cast-place-in-loop-cell : goal.overflow_cast-place-in-loop-cell
+overflow_cast-place-in-loop-cell c = omega (arith, c.alternatives-alternatives.ensures.few)
 
-pub overflow-add-at : goal.overflow-add-at
-overflow-add-at c =
+pub overflow_add-at : goal.overflow_add-at
+overflow_add-at c =
     omega (
       arith,
       cell_room c.args.line.now c.cells-cells.result.now c.loop-cell.cell-index _ c.alternatives-alternatives.result.now
@@ -35,15 +35,15 @@ loop-a-init c =
     laid_from (entered c.args.line.now c.cells-cells.result.now c.loop-cell.cell-index _ c.alternatives-alternatives.result.now
     c.cells-cells.ensures.items c.loop-cell-test.true c.alternatives-alternatives.ensures.items c.loop-cell.invariant)
 
-pub put-alternative-requires : goal.put-alternative-requires
-put-alternative-requires c = next_room c.alternatives-alternatives.result.now c.loop-a.a-index _ c.loop-a.invariant c.loop-a-test.true
+pub put_alternative-requires : goal.put_alternative-requires
+put_alternative-requires c = next_room c.alternatives-alternatives.result.now c.loop-a.a-index _ c.loop-a.invariant c.loop-a-test.true
 
-pub overflow-add-at-in-loop-a : goal.overflow-add-at-in-loop-a
-overflow-add-at-in-loop-a c = omega (arith, next_room c.alternatives-alternatives.result.now c.loop-a.a-index _ c.loop-a.invariant c.loop-a-test.true)
+pub overflow_add-at-in-loop-a : goal.overflow_add-at-in-loop-a
+overflow_add-at-in-loop-a c = omega (arith, next_room c.alternatives-alternatives.result.now c.loop-a.a-index _ c.loop-a.invariant c.loop-a-test.true)
 
 pub loop-a-preserved : goal.loop-a-preserved
 loop-a-preserved c =
-    laid_same c.put-alternative.ensures
+    laid_same c.put_alternative.ensures
     (put_three (alternative_next c.alternatives-alternatives.result.now c.loop-a.a-index (flat_map cell_bytes (drop (c.loop-cell.cell-index + 1) (line_of c.args.line.now)))
     (record { symbol = 0; penalty = 0 }) c.loop-a.invariant c.loop-a-test.true))
 
@@ -59,9 +59,9 @@ returns c =
     let cells = as_many c.args.line.now c.cells-cells.result.now c.cells-cells.ensures.items in
     let end =
     laid_all (laid_through
-    (opened c.args.line.now c.cells-cells.result.now c.args.place.now c.cells-cells.ensures.items (omega (arith, c.line-size.ensures, c.if-place-line-size.false)))
+    (opened c.args.line.now c.cells-cells.result.now c.args.place.now c.cells-cells.ensures.items (omega (arith, c.line_size.ensures, c.if-place-line_size.false)))
     (line_end (line_of c.args.line.now) c.loop-cell.cell-index c.loop-cell.invariant (omega (arith, cells, c.loop-cell-test.false)))) in
     record {
-      written = (end.0, omega (arith, end.0, c.line-size.ensures, c.if-place-line-size.false), end.1);
+      written = (end.0, omega (arith, end.0, c.line_size.ensures, c.if-place-line_size.false), end.1);
       reads_back = reads_back (line_of c.args.line.now) c.loop-cell.at _ end.0 end.1 (line_parts (line_of c.args.line.now) c.args.line.now.sound);
     }

@@ -8,6 +8,6 @@ returns c =
     let a = c.args.axis in
     let s = c.args.text.now in
     record {
-      value = c.has-form.ensures;
-      written = Decides-at c.has-form.result (is_angle a s) c.has-form.ensures (angle_written a s);
+      value = c.has_form.ensures;
+      written = Decides-at c.has_form.result (is_angle a s) c.has_form.ensures (angle_written a s);
     }

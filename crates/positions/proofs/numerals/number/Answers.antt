@@ -12,7 +12,7 @@ loop-symbol-preserved c =
     let n = c.loop-symbol.n in
     let d = c.from.result in
     let more : 10 ^ (i + 1) ≡ 10 ^ i * 10 = pow-add 10 i 1 in
-    let step : min (n * 10 + d) 4294967295 ≡ c.saturating-add-n.result = omega arith in (
+    let step : min (n * 10 + d) 4294967295 ≡ c.saturating_add-n.result = omega arith in (
       c.loop-symbol.invariant.0
           ∙ ap (λ t. min t 4294967295) (at_drop_more (number_after n) s i 0 c.loop-symbol-test.true ∙ ap (λ k. number_after (n * 10 + k) (drop (i + 1) s)) (omega arith))
           ∙ number_held 4294967295 (n * 10 + d) (drop (i + 1) s)

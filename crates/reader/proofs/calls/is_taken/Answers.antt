@@ -7,16 +7,16 @@ use Rattle.reader.specs.Calls.{light, all_light}
 use Rattle.reader.proofs.Readers.{light_in}
 use Rattle.reader.proofs.calls.is_taken.Goals as goal
 
-pub returns-then-cells-cells-taken : goal.returns-then-cells-cells-taken
-returns-then-cells-cells-taken g c =
+pub returns-then-cells-cells_taken : goal.returns-then-cells-cells_taken
+returns-then-cells-cells_taken g c =
     let s = g.S.Score.meaning in
     let line = c.args.line.now in
     let l = line_of line in
     sym (ap (λ b. b && all_light s.highest_penalty l)
-    (lt-leb (length l) s.most_cells (omega (arith, as_many line c.cells-cells.result.now c.cells-cells.ensures.items, c.cells-taken.ensures, c.if-cells-cells-taken.true))))
+    (lt-leb (length l) s.most_cells (omega (arith, as_many line c.cells-cells.result.now c.cells-cells.ensures.items, c.cells_taken.ensures, c.if-cells-cells_taken.true))))
 
-pub returns-then-not-is-light : goal.returns-then-not-is-light
-returns-then-not-is-light g c =
+pub returns-then-not-is_light : goal.returns-then-not-is_light
+returns-then-not-is_light g c =
     let s = g.S.Score.meaning in
     let line = c.args.line.now in
     let l = line_of line in
@@ -25,7 +25,7 @@ returns-then-not-is-light g c =
     let many = as_many line c.cells-cells.result.now c.cells-cells.ensures.items in
     let inside : i < length l = omega (arith, c.loop-cell-test.true) in
     let heavy : light h (get_or l i []) ≡ false =
-    light_in line c.cells-cells.result.now c.cells-cells.ensures.items i _ (omega (arith, c.loop-cell-test.true)) h _ c.penalty-taken.ensures _ c.if-not-is-light.ensures in
+    light_in line c.cells-cells.result.now c.cells-cells.ensures.items i _ (omega (arith, c.loop-cell-test.true)) h _ c.penalty_taken.ensures _ c.if-not-is_light.ensures in
     sym (and_right (leb (length l) s.most_cells) (all_light h l) (c.loop-cell.invariant ∙ at_drop_more (all_light h) l i [] inside ∙ ap (λ t. t && all_light h (drop (i + 1) l)) heavy))
 
 pub loop-cell-preserved : goal.loop-cell-preserved
@@ -38,7 +38,7 @@ loop-cell-preserved g c =
     let many = as_many line c.cells-cells.result.now c.cells-cells.ensures.items in
     let inside : i < length l = omega (arith, c.loop-cell-test.true) in
     let fair : light h (get_or l i []) ≡ true =
-    light_in line c.cells-cells.result.now c.cells-cells.ensures.items i _ (omega (arith, c.loop-cell-test.true)) h _ c.penalty-taken.ensures _ c.if-not-is-light.ensures in
+    light_in line c.cells-cells.result.now c.cells-cells.ensures.items i _ (omega (arith, c.loop-cell-test.true)) h _ c.penalty_taken.ensures _ c.if-not-is_light.ensures in
     c.loop-cell.invariant ∙ at_drop_more (all_light h) l i [] inside ∙ ap (λ t. t && all_light h (drop (i + 1) l)) fair
 
 pub returns : goal.returns
@@ -48,5 +48,5 @@ returns g c =
     let l = line_of line in
     let h = s.highest_penalty in
     let many = as_many line c.cells-cells.result.now c.cells-cells.ensures.items in
-    sym (and_from (leb (length l) s.most_cells) (all_light h l) (le-leb (length l) s.most_cells (omega (arith, c.cells-taken.ensures, c.if-cells-cells-taken.false)))
+    sym (and_from (leb (length l) s.most_cells) (all_light h l) (le-leb (length l) s.most_cells (omega (arith, c.cells_taken.ensures, c.if-cells-cells_taken.false)))
     (c.loop-cell.invariant ∙ at_drop_all (all_light h) l c.loop-cell.cell-index (omega (arith, c.loop-cell-test.false))))

@@ -16,8 +16,8 @@ next cells items i d alternatives same lt own =
     at_drop_more left_in cells i d (omega (arith, ap length same))
     ∙ ap (λ n. n + left_in (drop (i + 1) cells)) (ap (λ l. length (cell_of (get_or l i d))) (sym same) ∙ sym (ap length own))
 
-pub overflow-add-count : goal.overflow-add-count
-overflow-add-count c = omega (arith, c.loop-cell.invariant.1, c.alternatives.ensures.few, c.cells-cell-items.ensures.few, c.loop-cell-test.true)
+pub overflow_add-count : goal.overflow_add-count
+overflow_add-count c = omega (arith, c.loop-cell.invariant.1, c.alternatives.ensures.few, c.cells-cell-items.ensures.few, c.loop-cell-test.true)
 
 pub loop-cell-preserved : goal.loop-cell-preserved
 loop-cell-preserved c =

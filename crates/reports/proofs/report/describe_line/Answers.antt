@@ -11,5 +11,5 @@ row number m n p q d e = cc
 pub returns : goal.returns
 returns c =
     IfOk-weaker c.format.result _ _
-    (λ s e. e ∙ row c.args.number _ _ _ _ (sym (as_many c.args.line.now c.cells.result.now c.cells.ensures.items)) c.count-alternatives-alternatives.ensures)
+    (λ s e. e ∙ row c.args.number _ _ _ _ (sym (as_many c.args.line.now c.cells.result.now c.cells.ensures.items)) c.count_alternatives-alternatives.ensures)
     c.format.ensures.ok

@@ -10,22 +10,22 @@ use Rattle.reports.proofs.report.report_page.Goals as goal
 laws : (bytes : List ℕ) → Octets bytes → Accepted bytes × ((f : PageFault) → read_page bytes ≡ Err f → FirstWrong bytes f)
 laws bytes all = (accepted_exactly bytes all, λ f e. first_wrong bytes f all e)
 
-pub returns-in-err-text : goal.returns-in-err-text
-returns-in-err-text c =
-    let held = laws c.args.page.now (λ i. (c.type-inv.page i).fits) in
+pub returns-in_err-text : goal.returns-in_err-text
+returns-in_err-text c =
+    let held = laws c.args.page.now (λ i. (c.type_inv.page i).fits) in
     record { text = search rules; accepted = search rules; exactly = held.0; first_wrong = held.1 }
 
 pub returns-in-Ok : goal.returns-in-Ok
 returns-in-Ok c =
-    let held = laws c.args.page.now (λ i. (c.type-inv.page i).fits) in
+    let held = laws c.args.page.now (λ i. (c.type_inv.page i).fits) in
     record { text = search rules; accepted = search rules; exactly = held.0; first_wrong = held.1 }
 
-pub returns-in-ok-text : goal.returns-in-ok-text
-returns-in-ok-text c =
-    let held = laws c.args.page.now (λ i. (c.type-inv.page i).fits) in
+pub returns-in_ok-text : goal.returns-in_ok-text
+returns-in_ok-text c =
+    let held = laws c.args.page.now (λ i. (c.type_inv.page i).fits) in
     record { text = search rules; accepted = search rules; exactly = held.0; first_wrong = held.1 }
 
 pub returns-in-Err-Memory : goal.returns-in-Err-Memory
 returns-in-Err-Memory c =
-    let held = laws c.args.page.now (λ i. (c.type-inv.page i).fits) in
+    let held = laws c.args.page.now (λ i. (c.type_inv.page i).fits) in
     record { text = search rules; accepted = search rules; exactly = held.0; first_wrong = held.1 }

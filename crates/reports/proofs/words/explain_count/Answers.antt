@@ -13,6 +13,6 @@ returns-in-Count c =
     IfOk-weaker c.format-in-Count.result _ _
     (λ s e.
     e
-    ∙ ap (λ n. codes "the count of " ++ (c.args.what.now ++ (codes " is " ++ (decimal n ++ (codes ", not 1 to " ++ decimal c.args.most))))) c.byte-of-count.ensures
+    ∙ ap (λ n. codes "the count of " ++ (c.args.what.now ++ (codes " is " ++ (decimal n ++ (codes ", not 1 to " ++ decimal c.args.most))))) c.byte_of-count.ensures
     ∙ ap (count_words c.args.page.now c.args.what.now c.args.most) (sym c.in-Count.is))
     c.format-in-Count.ensures.ok

@@ -18,4 +18,4 @@ digits n high low small p q =
     cc
 
 pub returns : goal.returns
-returns c = IfOk-weaker c.format.result _ _ (λ s e. e ∙ digits c.args.byte _ _ (omega arith) c.hex-digit-of-high.ensures c.hex-digit-of-low.ensures) c.format.ensures.ok
+returns c = IfOk-weaker c.format.result _ _ (λ s e. e ∙ digits c.args.byte _ _ (omega arith) c.hex_digit_of-high.ensures c.hex_digit_of-low.ensures) c.format.ensures.ok

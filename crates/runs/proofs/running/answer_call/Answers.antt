@@ -7,34 +7,34 @@ use Rattle.runs.proofs.running.answer_call.Goals as goal
 
 pub returns-in-Load : goal.returns-in-Load
 returns-in-Load g c =
-    let told = c.answer-load.ensures in
+    let told = c.answer_load.ensures in
     let r = c.args.reader.now in
     record {
       agrees = told.agrees;
       kept = told.kept;
-      made = subst (λ k. Made g.S.Score.meaning (g.G.Grammar.meaning r.grammar) c.args.pages.now (view r) c.args.places.now k c.answer-load.result (view c.answer-load.new.reader) c.args.places.now)
+      made = subst (λ k. Made g.S.Score.meaning (g.G.Grammar.meaning r.grammar) c.args.pages.now (view r) c.args.places.now k c.answer_load.result (view c.answer_load.new.reader) c.args.places.now)
           (sym c.in-Load.is) (told.made c.args.places.now);
     }
 
 pub returns-in-Grant : goal.returns-in-Grant
 returns-in-Grant g c =
-    let told = c.answer-grant.ensures in
+    let told = c.answer_grant.ensures in
     let r = c.args.reader.now in
     record {
       agrees = told.agrees;
       kept = told.kept;
-      made = subst (λ k. Made g.S.Score.meaning (g.G.Grammar.meaning r.grammar) c.args.pages.now (view r) c.args.places.now k c.answer-grant.result (view c.answer-grant.new.reader) c.args.places.now)
+      made = subst (λ k. Made g.S.Score.meaning (g.G.Grammar.meaning r.grammar) c.args.pages.now (view r) c.args.places.now k c.answer_grant.result (view c.answer_grant.new.reader) c.args.places.now)
           (sym c.in-Grant.is) (told.made c.args.pages.now c.args.places.now);
     }
 
 pub returns-in-Next : goal.returns-in-Next
 returns-in-Next g c =
-    let told = c.answer-next.ensures in
+    let told = c.answer_next.ensures in
     let r = c.args.reader.now in
     record {
       agrees = told.agrees;
       kept = told.kept;
-      made = subst (λ k. Made g.S.Score.meaning (g.G.Grammar.meaning r.grammar) c.args.pages.now (view r) c.args.places.now k c.answer-next.result (view c.answer-next.new.reader) c.answer-next.new.places)
+      made = subst (λ k. Made g.S.Score.meaning (g.G.Grammar.meaning r.grammar) c.args.pages.now (view r) c.args.places.now k c.answer_next.result (view c.answer_next.new.reader) c.answer_next.new.places)
           (sym c.in-Next.is) (told.made c.args.pages.now);
     }
 

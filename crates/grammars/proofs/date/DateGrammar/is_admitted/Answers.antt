@@ -7,7 +7,7 @@ pub returns : goal.returns
 returns c =
     let s = c.args.text.now in
     record {
-      value = c.is-date.ensures;
-      dated = Decides-at c.is-date.result (admits_date s) c.is-date.ensures (admitted_dated s);
+      value = c.is_date.ensures;
+      dated = Decides-at c.is_date.result (admits_date s) c.is_date.ensures (admitted_dated s);
       calendar = calendar;
     }

@@ -50,8 +50,8 @@ returns-in-Some-reading g c =
     let cells = as_many line c.cells-cells.result.now c.cells-cells.ensures.items in
     let whole : length c.cells-cells.result.now - 0 ≡ length l = omega arith in
     let here = due_chain s g.met.S.Score.laws sets l r.looked r.granted n chain (passing_first (admitted sets l) (due s sets l r.looked r.granted) n chain out.2) in
-    let copied : c.copy-from-slice.new.self ≡ text l chain =
-    c.copy-from-slice.ensures.after ∙ ap (λ k. take k reading.text) whole ∙ ap (λ x. take (length l) x.text) reads ∙ front (text l chain) _ (length l) (text_long l chain here.long) in
+    let copied : c.copy_from_slice.new.self ≡ text l chain =
+    c.copy_from_slice.ensures.after ∙ ap (λ k. take k reading.text) whole ∙ ap (λ x. take (length l) x.text) reads ∙ front (text l chain) _ (length l) (text_long l chain here.long) in
     let yes = next_long s sets (view r) l (line_seen s sets r line c.in-Some.is) place (omega (arith, c.if-place-cells.false)) ∙ ap (next_came s l (view r) place live) out.2 in
     record {
       answer = ap (λ k. Ok (Found k)) (sym cells) ∙ sym (ap (λ x. x.answer) yes);
@@ -76,7 +76,7 @@ returns-in-None g c =
     let o = first_passing (admitted sets l) (due s sets l r.looked r.granted) in
     let out = told s l r.looked r.granted live sought o None c.seek-sought.ensures.sought c.in-None.is in
     let cells = as_many line c.cells-cells.result.now c.cells-cells.ensures.items in
-    let empty : in_use c.seek-sought.new.self ≡ 0 = eqb-true _ 0 (sym c.is-empty.ensures ∙ c.if-is-empty.true) in
+    let empty : in_use c.seek-sought.new.self ≡ 0 = eqb-true _ 0 (sym c.is_empty.ensures ∙ c.if-is_empty.true) in
     let end = empty_ends s g.met.S.Score.laws sets (g.met.G.Grammar.laws r.grammar) l line.sound sought.looked r.granted c.seek-sought.new.self c.seek-sought.ensures.agrees empty in
     let all : live ≤ r.granted = omega (arith, out.1) in
     let yes = next_long s sets (view r) l (line_seen s sets r line c.in-Some.is) place (omega (arith, c.if-place-cells.false)) ∙ ap (next_came s l (view r) place live) out.0 in
@@ -103,7 +103,7 @@ returns-in-None-2 g c =
     let o = first_passing (admitted sets l) (due s sets l r.looked r.granted) in
     let out = told s l r.looked r.granted live sought o None c.seek-sought.ensures.sought c.in-None-2.is in
     let cells = as_many line c.cells-cells.result.now c.cells-cells.ensures.items in
-    let full : in_use c.seek-sought.new.self ≡ 0 → ⊥ = λ e. false≢true (sym c.if-is-empty.false ∙ c.is-empty.ensures ∙ eq-eqb _ 0 e) in
+    let full : in_use c.seek-sought.new.self ≡ 0 → ⊥ = λ e. false≢true (sym c.if-is_empty.false ∙ c.is_empty.ensures ∙ eq-eqb _ 0 e) in
     let left = full_left s g.met.S.Score.laws sets (g.met.G.Grammar.laws r.grammar) l line.sound sought.looked r.granted c.seek-sought.new.self c.seek-sought.ensures.agrees full in
     let some : r.granted < live = omega (arith, out.1) in
     let yes = next_long s sets (view r) l (line_seen s sets r line c.in-Some.is) place (omega (arith, c.if-place-cells.false)) ∙ ap (next_came s l (view r) place live) out.0 in
