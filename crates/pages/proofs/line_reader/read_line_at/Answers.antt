@@ -13,7 +13,7 @@ use Rattle.pages.proofs.Steps.{between_at, within_at, opened, no_line, enter, ba
 use Rattle.pages.proofs.Shape.{WellFormedLine, line_from}
 use Rattle.pages.proofs.Round.{line_read}
 use Rattle.pages.proofs.line_reader.read_line_at.Goals as goal
-use Rattle.pages.proofs.line_reader.read_line_at.Goals.{at·returns, In_ok-outcome, else-cells-test, then-cells-test+in-Err, then-cells-test+in-Ok+then-loop-test+in-Err-read_alternative}
+use Rattle.pages.proofs.line_reader.read_line_at.Goals.{at-returns, In_ok-outcome, else-cells-test, then-cells-test+in-Err, then-cells-test+in-Ok+then-loop-test+in-Err-read_alternative}
 
 -- a refusal says nothing of a line
 refused : (r : Result (Line × ℕ) LineFault) (bytes : List ℕ) (at : ℕ) {f : LineFault} → r ≡ Err f → read_line bytes at ≡ Err f
@@ -97,7 +97,7 @@ stands : (c : goal.In_ok-outcome)
 stands c = line_read c.args.bytes.now c.args.at _ _ (λ i. (c.type_inv.bytes i).fits) (read c)
 
 pub invariant_of-result : goal.invariant_of-result
-invariant_of-result c = (line_from (cells_in c.cells.cells) (stands c).0, tt)
+invariant_of-result c = record { sound = line_from (cells_in c.cells.cells) (stands c).0 }
 
 pub returns : goal.returns
-returns c = let d = (at·returns c).In_ok-outcome in record { answer = read d; same_bytes = (stands d).1 }
+returns c = let d = (at-returns c).In_ok-outcome in record { answer = read d; same_bytes = (stands d).1 }
