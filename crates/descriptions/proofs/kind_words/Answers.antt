@@ -24,22 +24,22 @@ pub returns-in-Other : goal.returns-in-Other
 unfolding kind_words
 returns-in-Other c = reworded c.from_str-in-Other.result _ _ (sym (ap kind_words c.in-Other.is)) c.from_str-in-Other.ensures.ok
 
-pub returns-in_ok-pair : goal.returns-in_ok-pair
+pub returns-in_ok-pair-in-OnSheet : goal.returns-in_ok-pair-in-OnSheet
 unfolding kind_words
-returns-in_ok-pair c =
+returns-in_ok-pair-in-OnSheet c =
     let y = c.in-OnSheet.latitude in
     let x = c.in-OnSheet.longitude in
     let fits-y : SFits w32 y = search rules in
     let fits-x : SFits w32 x = search rules in
-    let pair = c.in_ok-pair.ensures ∙ (λ i. pair_words (to_z-of_z w32 y fits-y i) (to_z-of_z w32 x fits-x i)) in
+    let pair = c.in_ok-pair-in-OnSheet.ensures ∙ (λ i. pair_words (to_z-of_z w32 y fits-y i) (to_z-of_z w32 x fits-x i)) in
     reworded c.format.result _ _ (ap (λ p. codes "position " ++ (p ++ codes " on the sheet")) pair ∙ sym (ap kind_words c.in-OnSheet.is)) c.format.ensures.ok
 
-pub returns-in_ok-pair-2 : goal.returns-in_ok-pair-2
+pub returns-in_ok-pair-in-OffSheet : goal.returns-in_ok-pair-in-OffSheet
 unfolding kind_words
-returns-in_ok-pair-2 c =
+returns-in_ok-pair-in-OffSheet c =
     let y = c.in-OffSheet.latitude in
     let x = c.in-OffSheet.longitude in
     let fits-y : SFits w32 y = search rules in
     let fits-x : SFits w32 x = search rules in
-    let pair = c.in_ok-pair-2.ensures ∙ (λ i. pair_words (to_z-of_z w32 y fits-y i) (to_z-of_z w32 x fits-x i)) in
+    let pair = c.in_ok-pair-in-OffSheet.ensures ∙ (λ i. pair_words (to_z-of_z w32 y fits-y i) (to_z-of_z w32 x fits-x i)) in
     reworded c.format-in-OffSheet.result _ _ (ap (λ p. codes "position " ++ (p ++ codes " off the sheet")) pair ∙ sym (ap kind_words c.in-OffSheet.is)) c.format-in-OffSheet.ensures.ok

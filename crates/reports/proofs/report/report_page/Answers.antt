@@ -10,8 +10,8 @@ use Rattle.reports.proofs.report.report_page.Goals as goal
 laws : (bytes : List ℕ) → Octets bytes → Accepted bytes × ((f : PageFault) → read_page bytes ≡ Err f → FirstWrong bytes f)
 laws bytes all = (accepted_exactly bytes all, λ f e. first_wrong bytes f all e)
 
-pub returns-in_err-text : goal.returns-in_err-text
-returns-in_err-text c =
+pub returns-in_err-text-in-Err-Page : goal.returns-in_err-text-in-Err-Page
+returns-in_err-text-in-Err-Page c =
     let held = laws c.args.page.now (λ i. (c.type_inv.page i).fits) in
     record { text = search rules; accepted = search rules; exactly = held.0; first_wrong = held.1 }
 
@@ -20,8 +20,8 @@ returns-in-Ok c =
     let held = laws c.args.page.now (λ i. (c.type_inv.page i).fits) in
     record { text = search rules; accepted = search rules; exactly = held.0; first_wrong = held.1 }
 
-pub returns-in_ok-text : goal.returns-in_ok-text
-returns-in_ok-text c =
+pub returns-in_ok-text-in-Err-Page : goal.returns-in_ok-text-in-Err-Page
+returns-in_ok-text-in-Err-Page c =
     let held = laws c.args.page.now (λ i. (c.type_inv.page i).fits) in
     record { text = search rules; accepted = search rules; exactly = held.0; first_wrong = held.1 }
 

@@ -18,7 +18,7 @@ returns-then-symbol-lt33 c =
     IfOk-weaker c.format.result _ _
     (λ s e.
     e
-    ∙ symbol_words _ _ _ _ _ c.in_ok-digits.ensures c.byte_of-symbol.ensures
+    ∙ symbol_words _ _ _ _ _ c.in_ok-digits-in-Symbol.ensures c.byte_of-symbol.ensures
     (sym (cond-true (ltb (byte_at c.args.page.now c.in-Symbol.place) 33) _ (codes " is above 126") (ap (λ n. ltb n 33) (sym c.byte_of-symbol.ensures) ∙ below)))
     ∙ ap (alternative_words c.args.page.now) (sym c.in-Symbol.is))
     c.format.ensures.ok
@@ -29,7 +29,7 @@ returns-in-Symbol c =
     IfOk-weaker c.format-else-symbol-lt33.result _ _
     (λ s e.
     e
-    ∙ symbol_words _ _ _ _ _ c.in_ok-digits.ensures c.byte_of-symbol.ensures
+    ∙ symbol_words _ _ _ _ _ c.in_ok-digits-in-Symbol.ensures c.byte_of-symbol.ensures
     (sym (cond-false (ltb (byte_at c.args.page.now c.in-Symbol.place) 33) (codes " is below 33") _ (ap (λ n. ltb n 33) (sym c.byte_of-symbol.ensures) ∙ above)))
     ∙ ap (alternative_words c.args.page.now) (sym c.in-Symbol.is))
     c.format-else-symbol-lt33.ensures.ok
@@ -37,7 +37,7 @@ returns-in-Symbol c =
 pub returns-in-Twice : goal.returns-in-Twice
 returns-in-Twice c =
     IfOk-weaker c.format-in-Twice.result _ _
-    (λ s e. e ∙ symbol_words _ _ _ _ _ c.in_ok-digits-2.ensures c.byte_of.ensures refl ∙ ap (alternative_words c.args.page.now) (sym c.in-Twice.is))
+    (λ s e. e ∙ symbol_words _ _ _ _ _ c.in_ok-digits-in-Twice.ensures c.byte_of.ensures refl ∙ ap (alternative_words c.args.page.now) (sym c.in-Twice.is))
     c.format-in-Twice.ensures.ok
 
 pub returns : goal.returns
