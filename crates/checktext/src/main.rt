@@ -18,7 +18,7 @@ fn sheet_from_arguments(rt: &HostRuntime) -> anyhow::Result<Sheet> {
     };
     match read_sheet(southwest.as_bytes(), northeast.as_bytes()) {
         Ok(sheet) => Ok(sheet),
-        Err(fault) => Err(fault.explanation().into()),
+        Err(fault) => Err(anyhow!("{}", fault.explanation())),
     }
 }
 

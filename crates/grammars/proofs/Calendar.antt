@@ -4,7 +4,7 @@ use Rattle.std.proofs.lemmas.List.{length-take, length-drop, take_all, take-appe
 use Rattle.std.proofs.lemmas.Bool.{cases_lt, cond-true, cond-false, cond_both, lt-ltb, le-ltb, eqb-true, and_parts, and_from}
 use Rattle.positions.specs.Numerals.{within, digits, number_of, numeral}
 use Rattle.positions.proofs.Figures.{digits_numeral, digits_append, digits_take, field_digits, numeral_number}
-use Rattle.grammars.specs.Dates.{day_of, month_of, year_of, months, longest, leap, length_of, is_day, admits_date}
+use Rattle.grammars.specs.Dates.{day_of, month_of, year_of, longest, leap, length_of, is_day, admits_date}
 use Rattle.grammars.specs.Calendar.{Day, thirty, days_in, tomorrow, nth_day, date_text, Dated, Calendar}
 use Rattle.grammars.specs.Days.{within_gives, within_holds}
 

@@ -32,6 +32,7 @@ fn refused(
 // The page is refused with this number at this place, in this line and cell.
 fn check_refused(
     rt: &impl Abort,
+    case: &str,
     page: &[u8],
     number: u8,
     place: usize,
@@ -41,10 +42,10 @@ fn check_refused(
     match line_of_page(page, 0) {
         Ok(_) => Err(Fail::new("the page was accepted")),
         Err(fault) => {
-            assert_eq!(rt; fault.number(), number, "number");
-            assert_eq!(rt; fault.place(), place, "place");
-            assert_eq!(rt; fault.line(), line, "line");
-            assert_eq!(rt; fault.cell(), cell, "cell");
+            assert_eq!(rt; fault.number(), number, "{case}: number");
+            assert_eq!(rt; fault.place(), place, "{case}: place");
+            assert_eq!(rt; fault.line(), line, "{case}: line");
+            assert_eq!(rt; fault.cell(), cell, "{case}: cell");
             Ok(())
         }
     }
@@ -87,7 +88,15 @@ fn first_places(rt: HostRuntime) -> Result<(), Fail> {
         refused(&[1, 1, 1, 33, 0, 0, 1], 6, 6, none, none),
     ];
     for r in cases {
-        check_refused(&rt, r.page, r.number, r.place, r.line, r.cell).note("a first place")?;
+        check_refused(
+            &rt,
+            "a first place",
+            r.page,
+            r.number,
+            r.place,
+            r.line,
+            r.cell,
+        )?;
     }
     Ok(())
 }
@@ -96,12 +105,26 @@ fn first_places(rt: HostRuntime) -> Result<(), Fail> {
 #[test]
 fn first_of_two(rt: HostRuntime) -> Result<(), Fail> {
     let page = [1, 2, 2, 33, 0, 0, 33, 0, 0, 9];
-    check_refused(&rt, &page, 4, 6, Some(0), Some(0)).note("twice, then a count")?;
+    check_refused(&rt, "twice, then a count", &page, 4, 6, Some(0), Some(0))?;
     let page = [2, 1, 1, 33, 0, 0, 2, 1, 34, 0, 0, 1, 20, 0, 0, 7];
-    check_refused(&rt, &page, 3, 12, Some(1), Some(1)).note("a symbol, then an excess")?;
+    check_refused(
+        &rt,
+        "a symbol, then an excess",
+        &page,
+        3,
+        12,
+        Some(1),
+        Some(1),
+    )?;
     let page = [2, 1, 1, 33, 0, 0, 25, 9];
-    check_refused(&rt, &page, 2, 6, Some(1), None).note(
+    check_refused(
+        &rt,
         "a count of cells, then one of alternatives",
+        &page,
+        2,
+        6,
+        Some(1),
+        None,
     )
 }
 
@@ -116,44 +139,52 @@ fn last_places(rt: HostRuntime) -> Result<(), Fail> {
     let line = Some(39);
     let cell = Some(23);
     let (short, _) = page.split_at(24040.min(page.len()));
-    check_refused(&rt, short, 1, 24040, line, cell).note("short")?;
+    check_refused(&rt, "short", short, 1, 24040, line, cell)?;
     check_refused(
         &rt,
+        "count",
         altered(heap, page, 24016, 9)?.as_slice(),
         2,
         24016,
         line,
         cell,
-    )
-    .note("count")?;
+    )?;
     check_refused(
         &rt,
+        "symbol",
         altered(heap, page, 24038, 127)?.as_slice(),
         3,
         24038,
         line,
         cell,
-    )
-    .note("symbol")?;
+    )?;
     check_refused(
         &rt,
+        "twice",
         altered(heap, page, 24038, 33)?.as_slice(),
         4,
         24038,
         line,
         cell,
-    )
-    .note("twice")?;
+    )?;
     check_refused(
         &rt,
+        "order",
         altered(heap, page, 24040, 5)?.as_slice(),
         5,
         24039,
         line,
         cell,
+    )?;
+    check_refused(
+        &rt,
+        "excess",
+        longer(heap, page, 1)?.as_slice(),
+        6,
+        24041,
+        None,
+        None,
     )
-    .note("order")?;
-    check_refused(&rt, longer(heap, page, 1)?.as_slice(), 6, 24041, None, None).note("excess")
 }
 
 // A good page cut after any of its bytes is short at the cut; with a byte more it is refused for that byte.
@@ -173,6 +204,7 @@ fn cut_anywhere(rt: HostRuntime) -> Result<(), Fail> {
     assert!(rt; line_of_page(whole, 0).is_ok());
     check_refused(
         &rt,
+        "a byte more",
         longer(rt.alloc(), whole, 0)?.as_slice(),
         6,
         43,

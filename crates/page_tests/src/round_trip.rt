@@ -15,7 +15,7 @@ fn same_bytes(rt: HostRuntime) -> Result<(), Fail> {
     let (_, bytes) = DATE_PAGE.split_at(1);
     let (written, rest) = place.split_at(42);
     assert!(rt; written == bytes);
-    assert!(rt; rest == &[0xEE, 0xEE, 0xEE]);
+    assert!(rt; rest == [0xEE, 0xEE, 0xEE].as_slice());
     Ok(())
 }
 

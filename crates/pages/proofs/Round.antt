@@ -1,5 +1,5 @@
 -- Reading and writing undo each other. Assumes nothing.
-use Rattle.std.proofs.Common.{◌≡◌, ℕ, zero, suc, ◌+◌, ◌-◌, ◌*◌, ◌/◌, ◌%◌, ◌<◌, ◌≤◌, true, false, ◌||◌, ltb, leb, List, [], ◌∷◌, ◌++◌, length, get_or, take, drop, Ok, Err, Result, sym, refl, ap, ◌∙◌, subst, append_assoc, append-nil, add-zero, arith, length-append, length-drop}
+use Rattle.std.proofs.Common.{◌≡◌, ℕ, zero, suc, ◌+◌, ◌*◌, ◌/◌, ◌%◌, ◌<◌, ◌≤◌, true, false, ◌||◌, ltb, leb, List, [], ◌∷◌, ◌++◌, length, get_or, take, drop, Ok, Err, Result, sym, refl, ap, ◌∙◌, subst, append_assoc, append-nil, add-zero, arith, length-append, length-drop}
 use Rattle.std.specs.List.{flat_map, AllByRecursion as All}
 use Rattle.std.proofs.lemmas.List.{take_all, take-append-le, drop_all, drop_more, drop-drop, drop_at, get_or-drop}
 use Rattle.std.proofs.lemmas.Bool.{ltb-false, leb-false, eqb-false, ne_eqb, or_parts, or_from, le-ltb, lt-leb, cond-false}

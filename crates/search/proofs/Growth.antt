@@ -1,17 +1,15 @@
 -- How the live chains grow from one another. Assumes nothing.
-use Rattle.std.proofs.Common.{◌≡◌, ℕ, zero, suc, ◌+◌, ◌-◌, ◌<◌, ◌≤◌, Bool, true, false, cond, ◌&&◌, ltb, leb, ◌⊎◌, ◌↔◌, List, [], ◌∷◌, ◌++◌, length, get_or, take, set, replicate, sym, refl, ap, ◌∙◌, subst, inl, inr, ⊎_elim, append-nil, arith, length-append, length-set}
+use Rattle.std.proofs.Common.{◌≡◌, ℕ, zero, suc, ◌+◌, ◌-◌, ◌<◌, ◌≤◌, Bool, true, false, cond, ltb, leb, List, [], ◌∷◌, ◌++◌, length, get_or, take, set, replicate, sym, refl, ap, ◌∙◌, subst, inl, inr, ⊎_elim, append-nil, arith, length-append, length-set}
 use mathlib.Core.Option.{Option, none, some, some-injective, none-ne-some}
 use lib.ListN.{length-replicate, get_or-replicate}
-use Rattle.std.specs.List.{AllByRecursion as All}
 use Rattle.std.proofs.lemmas.List.{get_or-set_same, get_or-set_other, set-set, set-get_or, take-take, get_or_past}
 use Rattle.std.proofs.ByRecursion.{All-get_or}
 use Rattle.std.proofs.lemmas.Bool.{both_ways, cases_lt, cases_Bool, and_parts, and_from, and_right, and_left, leb-true, le-leb, ltb-true, lt-ltb, false≢true}
-use Rattle.search.specs.Members.{Mem, Distinct, Ascending}
-use Rattle.search.specs.BestFirst.{Growth, BestFirst}
+use Rattle.search.specs.Members.{Mem, Distinct}
 use Rattle.scores.specs.Scores.{Meaning, Laws}
-use Rattle.grammars.specs.Grammars.{Texts, Sets, Lawful}
+use Rattle.grammars.specs.Grammars.{Texts}
 use Rattle.pages.specs.Shape.{Cells}
-use Rattle.search.specs.Chains.{Chain, ChainOf, text, total, before, last_raised, opens, live, lowered_at, lowered, root, raised, or_zero, may_raise, children_below, children, ranking}
+use Rattle.search.specs.Chains.{Chain, ChainOf, text, before, last_raised, opens, live, lowered_at, lowered, root, raised, or_zero, may_raise, children_below, children, ranking}
 use Rattle.search.specs.Theorems.{Ranked, LiveChainsGrow, ChildrenAreFew, BestFirstOfChains, FrontierIsSmall}
 use Rattle.pages.proofs.Shape.{line_parts}
 use Rattle.search.proofs.Members.{mem_left, mem_right, mem_append, distinct_append}

@@ -1,9 +1,9 @@
 -- `before` is a strict order of the chains of a line. Assumes nothing.
-use Rattle.std.proofs.Common.{◌≡◌, ℕ, zero, suc, ◌+◌, ◌-◌, ◌<◌, ◌≤◌, Bool, true, false, not, ◌&&◌, ◌||◌, eqb, ltb, ◌⊎◌, List, [], ◌∷◌, ◌++◌, length, sym, refl, ap, ◌∙◌, subst, inl, inr, ⊎_elim, arith}
+use Rattle.std.proofs.Common.{◌≡◌, ℕ, ◌<◌, Bool, true, false, not, ◌&&◌, ◌||◌, eqb, ltb, ◌⊎◌, [], ◌∷◌, length, sym, refl, ◌∙◌, inl, inr, ⊎_elim, arith}
 use Rattle.std.proofs.lemmas.Bool.{both_ways, cases_Bool, cases_order, or_cases, or_left, or_right, and_parts, and_from, ltb-true, lt-ltb, eqb-true, eq-eqb, false≢true}
 use Rattle.scores.specs.Scores.{Meaning, Laws}
 use Rattle.pages.specs.Shape.{Cells}
-use Rattle.search.specs.Chains.{Chain, ChainOf, total, lower, before}
+use Rattle.search.specs.Chains.{Chain, total, lower, before}
 use Rattle.search.specs.Theorems.{StrictTotalOrder}
 
 lower_cases : (x y : ℕ) (a b : Chain) → lower (x ∷ a) (y ∷ b) ≡ true → (x < y) ⊎ ((x ≡ y) × (lower a b ≡ true))

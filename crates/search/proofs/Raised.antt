@@ -1,6 +1,6 @@
 -- The last raised cell, and what a change of one rank leaves and changes. Assumes nothing.
-use Rattle.std.proofs.Common.{◌≡◌, ℕ, zero, suc, ◌+◌, ◌-◌, ◌<◌, ◌≤◌, Bool, true, false, ◌⊎◌, List, [], ◌∷◌, ◌++◌, map, length, get_or, take, set, sym, refl, ap, ◌∙◌, subst, inl, inr, ⊎_elim, arith, length-set}
-use mathlib.Core.Option.{Option, none, some, some-injective, none-ne-some}
+use Rattle.std.proofs.Common.{◌≡◌, ℕ, zero, suc, ◌<◌, ◌≤◌, true, ◌⊎◌, List, [], ◌∷◌, length, get_or, take, set, sym, refl, ap, ◌∙◌, subst, inl, inr, ⊎_elim, arith, length-set}
+use mathlib.Core.Option.{Option, none, some}
 use Rattle.std.proofs.lemmas.List.{get_or-set_same, get_or-set_other}
 use Rattle.std.proofs.lemmas.Bool.{cases_order, cases_eq}
 use Rattle.std.specs.List.{AllByRecursion as All}
@@ -9,7 +9,7 @@ use Rattle.pages.specs.Shape.{Alternatives, well_formed_line}
 use Rattle.pages.proofs.Shape.{Rises, WellFormedCell, line_parts}
 use Rattle.scores.specs.Scores.{Meaning, Laws, stepped}
 use Rattle.pages.specs.Shape.{Cells}
-use Rattle.search.specs.Chains.{Chain, ChainOf, no_alt, taken, text, penalties, total, lower, raised_from, last_raised}
+use Rattle.search.specs.Chains.{Chain, ChainOf, no_alt, text, penalties, lower, raised_from, last_raised}
 use Rattle.search.proofs.Order.{lower_less, lower_same}
 
 -- i is the place of the last raised cell of c

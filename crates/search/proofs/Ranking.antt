@@ -1,10 +1,8 @@
 -- The ranking holds the live chains in their order. Assumes nothing.
-use Rattle.std.proofs.Common.{◌≡◌, ℕ, Bool, true, false, cond, ◌⊎◌, ◌↔◌, List, [], ◌∷◌, ◌++◌, filter, sym, refl, ap, ◌∙◌, subst, inl, inr, ⊎_elim}
+use Rattle.std.proofs.Common.{◌≡◌, Bool, true, false, cond, ◌⊎◌, List, [], ◌∷◌, filter, sym, refl, ap, ◌∙◌, subst, inl, inr, ⊎_elim}
 use Rattle.std.proofs.lemmas.Bool.{both_ways, false≢true}
 use Rattle.search.specs.Members.{Mem, Distinct, Ascending}
-use Rattle.scores.specs.Scores.{Meaning, Laws}
-use Rattle.pages.specs.Shape.{Cells}
-use Rattle.search.specs.Chains.{Chain, ChainOf, chains, before, live, placed, sorted, ranking}
+use Rattle.search.specs.Chains.{Chain, ChainOf, chains, before, live, placed, sorted}
 use Rattle.search.specs.Theorems.{RankingOfLiveChains}
 use Rattle.search.proofs.Listed.{chains_listed}
 use Rattle.search.proofs.Order.{before_trans, before_either}

@@ -1,11 +1,10 @@
 -- A chain and its text determine each other, and a chain whose text is admitted is live. Assumes nothing.
-use Rattle.std.proofs.Common.{◌≡◌, ℕ, zero, suc, ◌<◌, Bool, true, ◌⊎◌, List, [], ◌∷◌, length, get_or, take, sym, refl, ap, ◌∙◌, subst, ⊎_elim, arith}
+use Rattle.std.proofs.Common.{◌≡◌, ℕ, zero, suc, ◌<◌, true, [], ◌∷◌, length, get_or, sym, refl, ap, arith}
 use mathlib.Core.Option.{Option, none, some}
 use Rattle.std.specs.List.{AllByRecursion as All}
 use Rattle.std.proofs.ByRecursion.{All-get_or}
 use Rattle.pages.specs.Shape.{Alternatives, Cells}
 use Rattle.pages.proofs.Shape.{Apart, WellFormedCell, line_parts}
-use Rattle.grammars.specs.Grammars.{Sets, Lawful}
 use Rattle.search.specs.Chains.{Chain, ChainOf, no_alt, text, last_raised, opens}
 use Rattle.search.specs.Theorems.{TextTellsChain, AdmissibleIsLive}
 

@@ -59,7 +59,7 @@ fn pairs_of_texts(rt: HostRuntime) -> Result<(), Fail> {
             Err(_) => return Err(Fail::new("refused")),
         }
         assert_eq!(rt; &place[0..17], &text[0..17]);
-        assert_eq!(rt; &place[17..20], b"...");
+        assert_eq!(rt; &place[17..20], b"...".as_slice());
     }
     Ok(())
 }
@@ -102,13 +102,13 @@ fn places_and_refusals(rt: HostRuntime) {
     assert_eq!(rt; refusal_number(-5_400_001, 0, &mut place), 11);
     assert_eq!(rt; refusal_number(0, 10_800_001, &mut place), 11);
     assert_eq!(rt; refusal_number(0, -10_800_000, &mut place), 11);
-    assert_eq!(rt; &place[0..16], b"................");
+    assert_eq!(rt; &place[0..16], b"................".as_slice());
     let mut long = [b'.'; 18];
     assert_eq!(rt; refusal_number(0, 10_800_001, &mut long), 11);
-    assert_eq!(rt; &long[0..18], b"..................");
+    assert_eq!(rt; &long[0..18], b"..................".as_slice());
     let mut exact = [b'.'; 17];
     assert_eq!(rt; refusal_number(3_012_345, -252_345, &mut exact), 0);
-    assert_eq!(rt; &exact[0..17], b"5012345N00412345W");
+    assert_eq!(rt; &exact[0..17], b"5012345N00412345W".as_slice());
 }
 
 #[test]

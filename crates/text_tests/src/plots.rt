@@ -18,11 +18,11 @@ fn a_plotted_mark(rt: HostRuntime) -> Result<(), Fail> {
         Err((_, _mark)) => unreachable(),
     };
     assert_eq!(rt; refusal.number(), 10);
-    assert_eq!(rt; &short[0..7], &[7, 7, 7, 7, 7, 7, 7]);
+    assert_eq!(rt; &short[0..7], [7, 7, 7, 7, 7, 7, 7].as_slice());
     assert_eq!(rt; count, 8);
     assert_eq!(rt;
         &place[0..9],
-        &[0x00, 0x2d, 0xf6, 0xf9, 0xff, 0xfc, 0x26, 0x47, 7]
+        [0x00, 0x2d, 0xf6, 0xf9, 0xff, 0xfc, 0x26, 0x47, 7].as_slice()
     );
     Ok(())
 }

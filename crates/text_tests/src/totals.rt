@@ -48,12 +48,12 @@ fn figures_of_the_scores(rt: HostRuntime) {
         Shares::MOST_CELLS,
         Shares::cells_taken(),
     ];
-    assert_eq!(rt; &cells[0..4], &[24, 24, 9, 9]);
+    assert_eq!(rt; &cells[0..4], [24, 24, 9, 9].as_slice());
     let penalties = [
         Sum::HIGHEST_PENALTY,
         Sum::penalty_taken(),
         Shares::HIGHEST_PENALTY,
         Shares::penalty_taken(),
     ];
-    assert_eq!(rt; &penalties[0..4], &[65_535, 65_535, 99, 99]);
+    assert_eq!(rt; &penalties[0..4], [65_535, 65_535, 99, 99].as_slice());
 }
