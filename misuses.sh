@@ -5,6 +5,7 @@ cd "$(dirname "$0")" || exit 2
 copy=$(mktemp -d) || exit 2
 trap 'rm -rf "$copy"' EXIT
 mkdir "$copy/crates" && cp -r crates/positions crates/marks "$copy/crates" || exit 2
+rm -rf "$copy"/crates/*/out
 printf 'positions:\nmarks: positions\n' >"$copy/crates.txt"
 lib=$copy/crates/marks/src/lib.rt
 cp "$lib" "$copy/lib.txt"
@@ -14,7 +15,7 @@ status=0
 check_with() {
     cp "$copy/lib.txt" "$lib"
     printf '\n%s\n' "$1" >>"$lib"
-    (cd "$copy" && rt dev marks) >"$copy/output.txt" 2>&1
+    (cd "$copy/crates/marks" && rt check) >"$copy/output.txt" 2>&1
     ended=$?
     errors=$(sed -n 's/.*error\[\([a-z0-9-]*\)\].*/\1/p' "$copy/output.txt" | sort -u)
 }
