@@ -4,7 +4,7 @@ use mathlib.Core.Option.{Option, none, some}
 use lib.Seq.{take-set-lt}
 use Rattle.std.specs.BinaryHeap.{heap_capacity}
 use Rattle.std.specs.List.Sorted.{IsPermutation}
-use Rattle.std.specs.List.{AllByRecursion, AllByRecursion as All}
+use Rattle.std.specs.List.{AllByRecursion}
 use Rattle.std.proofs.lemmas.List.Sorted.{length_permutation, IsPermutation-sym}
 use Rattle.std.proofs.ByRecursion.{all_shuffled}
 use Rattle.std.proofs.lemmas.List.{length-map, take-take, append-nil}
@@ -114,7 +114,7 @@ module _ {S : Type 0} (s : Meaning) (l : Cells) where
       let back : s.no_worse x.total y.total ≡ s.no_worse b a = (λ i. s.no_worse (ex i) (ey i)) in
       ⊎_elim (λ e. inl (one, back ∙ e)) (λ e. inr (one, back ∙ e.0, lower_in (length l) (ranks_of y.ranks) (ranks_of x.ranks) (lower_at _ _ e.1))) q.1
 
-  unbeaten_in : (x : Place S) → x.total ≡ total s l (chain_in l x.ranks) → (ys : List (Place S)) → First s.no_worse x ys → All (Placed s l) ys
+  unbeaten_in : (x : Place S) → x.total ≡ total s l (chain_in l x.ranks) → (ys : List (Place S)) → First s.no_worse x ys → AllByRecursion (Placed s l) ys
       → (d : Chain) → Mem d (map (chain_at s l) ys) → before s l d (chain_in l x.ranks) ≡ false
   unbeaten_in x ex [] first all d m = absurd m
   unbeaten_in x ex (y ∷ ys) first all d (inl e) =
@@ -122,7 +122,7 @@ module _ {S : Type 0} (s : Meaning) (l : Cells) where
       (λ h. h) (cases_Bool (before s l d (chain_in l x.ranks)))
   unbeaten_in x ex (y ∷ ys) first all d (inr m) = unbeaten_in x ex ys first.1 all.1 d m
 
-  all_listed : (ys zs : List (Place S)) → ((d : Chain) → Mem d (map (chain_at s l) ys) → Mem d (map (chain_at s l) zs)) → All (λ p. Mem (chain_at s l p) (map (chain_at s l) zs)) ys
+  all_listed : (ys zs : List (Place S)) → ((d : Chain) → Mem d (map (chain_at s l) ys) → Mem d (map (chain_at s l) zs)) → AllByRecursion (λ p. Mem (chain_at s l p) (map (chain_at s l) zs)) ys
   all_listed [] zs h = tt
   all_listed (y ∷ ys) zs h = (h (chain_at s l y) (inl refl), all_listed ys zs (λ d m. h d (inr m)))
 
@@ -161,7 +161,7 @@ module _ {S : Type 0} (s : Meaning) (l : Cells) where
   holds_none is ready room e = record {
     ready = ready;
     room = room;
-    places = subst (All (Placed s l)) (sym e) tt;
+    places = subst (AllByRecursion (Placed s l)) (sym e) tt;
     chains = λ c. ap (λ xs. times c (map (chain_at s l) xs)) e;
     many = ap (λ xs. length (map (chain_at s l) xs)) e;
   }

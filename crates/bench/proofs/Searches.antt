@@ -1,6 +1,6 @@
 -- A look goes on in the ranking, and a search stops at the first that is admitted. Assumes nothing.
 use Rattle.std.proofs.Common.{◌≡◌, ℕ, zero, suc, ◌+◌, ◌-◌, ◌*◌, ◌<◌, ◌≤◌, min, Bool, true, false, cond, ◌⊎◌, ◌↔◌, List, [], ◌∷◌, ◌++◌, length, take, drop, Some, None, Option, sym, refl, ap, ◌∙◌, subst, inl, inr, ⊎_elim, mul_comm, mul-le-mul_left, mul-zero, mul-suc, arith, length-append, length-drop, length-take}
-use Rattle.std.specs.List.{AllByRecursion as All}
+use Rattle.std.specs.List.{AllByRecursion}
 use Rattle.std.proofs.lemmas.List.{take-take, drop-drop, take_all}
 use Rattle.std.proofs.lemmas.Bool.{cases_lt, cond-true, cond-false}
 use Rattle.std.proofs.ByRecursion.{All-push}
@@ -113,11 +113,11 @@ module _ (P : Chain → Type 0) (rk : List Chain) (looked k : ℕ) (le : looked 
   dropped : drop (k - looked) (drop looked rk) ≡ drop k rk
   dropped = drop-drop (k - looked) looked rk ∙ (let e : looked + (k - looked) ≡ k = omega arith in ap (λ n. drop n rk) e)
 
-  pub passed_more : (c : Chain) → drop k rk ≡ c ∷ drop (k + 1) rk → All P (take (k - looked) (drop looked rk)) → P c → All P (take ((k + 1) - looked) (drop looked rk))
+  pub passed_more : (c : Chain) → drop k rk ≡ c ∷ drop (k + 1) rk → AllByRecursion P (take (k - looked) (drop looked rk)) → P c → AllByRecursion P (take ((k + 1) - looked) (drop looked rk))
   passed_more c here all p =
       let e : (k + 1) - looked ≡ (k - looked) + 1 = omega arith in
-      subst (λ n. All P (take n (drop looked rk))) (sym e)
-      (subst (All P) (sym (take_next (k - looked) (drop looked rk) c (drop (k + 1) rk) (dropped ∙ here))) (All-push P (take (k - looked) (drop looked rk)) c all p))
+      subst (λ n. AllByRecursion P (take n (drop looked rk))) (sym e)
+      (subst (AllByRecursion P) (sym (take_next (k - looked) (drop looked rk) c (drop (k + 1) rk) (dropped ∙ here))) (All-push P (take (k - looked) (drop looked rk)) c all p))
 
   pub here_in : (granted : ℕ) (c : Chain) → k < granted → drop k rk ≡ c ∷ drop (k + 1) rk
       → drop (k - looked) (take (granted - looked) (drop looked rk)) ≡ c ∷ drop ((k - looked) + 1) (take (granted - looked) (drop looked rk))
@@ -135,11 +135,11 @@ module _ (P : Chain → Type 0) (rk : List Chain) (looked k : ℕ) (le : looked 
 
 -- the first that passes, by those that do not
 module _ (test : Chain → Bool) where
-  pub none_passes : (cs : List Chain) → All (λ d. test d ≡ false) cs → first_passing test cs ≡ None
+  pub none_passes : (cs : List Chain) → AllByRecursion (λ d. test d ≡ false) cs → first_passing test cs ≡ None
   none_passes [] h = refl
   none_passes (c ∷ cs) h = cond-false (test c) (Some (0, c)) (one_further (first_passing test cs)) h.0 ∙ ap one_further (none_passes cs h.1)
 
-  pub passes_first : (n : ℕ) (cs : List Chain) (c : Chain) → All (λ d. test d ≡ false) (take n cs) → drop n cs ≡ c ∷ drop (n + 1) cs → test c ≡ true → first_passing test cs ≡ Some (n, c)
+  pub passes_first : (n : ℕ) (cs : List Chain) (c : Chain) → AllByRecursion (λ d. test d ≡ false) (take n cs) → drop n cs ≡ c ∷ drop (n + 1) cs → test c ≡ true → first_passing test cs ≡ Some (n, c)
   passes_first zero [] c all here e = let z : ◌≡◌ {A = ℕ} 0 1 = cc in absurd (omega arith)
   passes_first zero (x ∷ cs) c all here e =
       let same : x ≡ c = cc in
@@ -154,14 +154,14 @@ module _ (test : Chain → Bool) where
 
 -- the first n of the list fail the test, and c, which comes next, passes it
 pub record FirstPassing (test : Chain → Bool) (cs : List Chain) (n : ℕ) (c : Chain) : Type 0 where
-  pub passed_over : All (λ d. test d ≡ false) (take n cs)
+  pub passed_over : AllByRecursion (λ d. test d ≡ false) (take n cs)
   pub here : drop n cs ≡ c ∷ drop (n + 1) cs
   pub passes : test c ≡ true
 
 -- what the first that passes tells, where there is one and where there is none
 abbrev Passing : (Chain → Bool) → List Chain → Option (ℕ × Chain) → Type 0
 Passing test cs (Some found) = FirstPassing test cs found.0 found.1
-Passing test cs None = All (λ d. test d ≡ false) cs
+Passing test cs None = AllByRecursion (λ d. test d ≡ false) cs
 
 module _ (test : Chain → Bool) where
   passing : (cs : List Chain) → Passing test cs (first_passing test cs)
@@ -175,7 +175,7 @@ module _ (test : Chain → Bool) where
           let one : found.0 + 1 ≡ suc found.0 = omega arith in
           let two : found.0 + 1 + 1 ≡ suc (found.0 + 1) = omega arith in
           record {
-            passed_over = subst (λ n. All (λ d. test d ≡ false) (take n (x ∷ cs))) (sym one) (e, rest.passed_over);
+            passed_over = subst (λ n. AllByRecursion (λ d. test d ≡ false) (take n (x ∷ cs))) (sym one) (e, rest.passed_over);
             here = ap (λ n. drop n (x ∷ cs)) one ∙ rest.here ∙ ap (λ n. found.1 ∷ drop n (x ∷ cs)) (sym two);
             passes = rest.passes;
           }
@@ -183,7 +183,7 @@ module _ (test : Chain → Bool) where
   pub passing_first : (cs : List Chain) (n : ℕ) (c : Chain) → first_passing test cs ≡ Some (n, c) → FirstPassing test cs n c
   passing_first cs n c e = subst (Passing test cs) e (passing cs)
 
-  pub passing_none : (cs : List Chain) → first_passing test cs ≡ None → All (λ d. test d ≡ false) cs
+  pub passing_none : (cs : List Chain) → first_passing test cs ≡ None → AllByRecursion (λ d. test d ≡ false) cs
   passing_none cs e = subst (Passing test cs) e (passing cs)
 
 -- where one stands in the beginning of a list, it stands in the list

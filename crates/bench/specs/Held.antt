@@ -1,7 +1,7 @@
 -- What a bench holds: chains of a line, with their totals. Assumes nothing.
 use Rattle.std.specs.Prelude.{◌≡◌, ℕ, ◌+◌, ◌-◌, ◌≤◌, Bool, true, false, cond, ◌&&◌, List, [], ◌∷◌, ◌++◌, map, length, replicate, ◌==◌}
 use Rattle.std.specs.BinaryHeap.{heap_capacity, heap_items, heap_len}
-use Rattle.std.specs.List.{AllByRecursion as All}
+use Rattle.std.specs.List.{AllByRecursion}
 use Rattle.pages.specs.Shape.{Cells}
 use Rattle.scores.specs.Scores.{Meaning}
 use Rattle.grammars.specs.Grammars.{Texts}
@@ -50,7 +50,7 @@ Placed s l p = ChainOf l (chain_in l p.ranks) × (p.total ≡ total s l (chain_i
 pub record Holds {S : Type 0} (s : Meaning) (l : Cells) (bench : Bench S) (cs : List Chain) : Type 0 where
   pub ready : Ready s.no_worse (heap_items bench.places)
   pub room : Roomy bench
-  pub places : All (Placed s l) (heap_items bench.places)
+  pub places : AllByRecursion (Placed s l) (heap_items bench.places)
   pub chains : (c : Chain) → times c (on_bench l bench) ≡ times c cs
   pub many : length (on_bench l bench) ≡ length cs
 

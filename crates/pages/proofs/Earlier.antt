@@ -1,6 +1,6 @@
 -- A refusal names the first thing wrong: what stands before its place can be completed to a good page. Assumes nothing.
 use Rattle.std.proofs.Common.{◌≡◌, ℕ, zero, suc, ◌+◌, ◌-◌, ◌*◌, ◌/◌, ◌%◌, ◌<◌, ◌≤◌, Bool, true, false, cond, ◌||◌, eqb, ltb, leb, ◌⊎◌, List, [], ◌∷◌, ◌++◌, length, get_or, take, drop, Ok, Err, Result, sym, refl, ap, ◌∙◌, subst, inl, inr, ⊎_elim, arith, length-drop}
-use Rattle.std.specs.List.{flat_map, AllByRecursion as All}
+use Rattle.std.specs.List.{flat_map, AllByRecursion}
 use Rattle.std.proofs.lemmas.List.{length-take, length-take-le, take-append-le, take_all, take_more, drop_more, length_push, get_or_push, get_or_append_left}
 use Rattle.std.proofs.lemmas.Bool.{leb-true, leb-false, ltb-false, eqb-true, ne_eqb, or_parts, or_from, or_cases, cond-true, cond-false, lt-ltb, le-ltb, lt-leb, cases_lt}
 use Rattle.pages.specs.declared.lines.Alternative.{Alternative}
@@ -376,7 +376,7 @@ line_size b at f le e =
 record Blanks {X : Type 0} (P : X → Type 0) (n : ℕ) : Type 0 where
   more : List X
   long : length more ≡ n
-  good : All P more
+  good : AllByRecursion P more
 
 blanks : {X : Type 0} (P : X → Type 0) (x : X) → P x → (n : ℕ) → Blanks P n
 blanks P x p zero = record { more = []; long = refl; good = tt }
@@ -391,7 +391,7 @@ joined_on b at next n part y s e =
 record CellsDone (b : List ℕ) (at due n : ℕ) : Type 0 where
   more : Cells
   long : length more ≡ due
-  well : All WellFormedCell more
+  well : AllByRecursion WellFormedCell more
   agrees : take (n - at) (flat_map cell_bytes more) ≡ take (n - at) (drop at b)
 
 cells_step : (b : List ℕ) (due at : ℕ) (before : Cells) (f : LineFault) → Octets b → at ≤ length b
@@ -473,7 +473,7 @@ line_complete b at f all le e = line_step b at f all le (read_count 24 b at) ref
 record LinesDone (b : List ℕ) (at due n : ℕ) : Type 0 where
   more : Lines
   long : length more ≡ due
-  well : All WellFormedLine more
+  well : AllByRecursion WellFormedLine more
   agrees : take (n - at) (flat_map line_bytes more) ≡ take (n - at) (drop at b)
 
 -- lines behind a line are lost with it
@@ -554,14 +554,14 @@ unfolding read_page
 begins b f all e = page_step b f all (read_count 40 b 0) refl e
 
 -- the bytes of a well-formed page are bytes
-all_joined : {X : Type 0} (P : X → Type 0) (Q : ℕ → Type 0) (f : X → List ℕ) → ((x : X) → P x → All Q (f x)) → (xs : List X) → All P xs → All Q (flat_map f xs)
+all_joined : {X : Type 0} (P : X → Type 0) (Q : ℕ → Type 0) (f : X → List ℕ) → ((x : X) → P x → AllByRecursion Q (f x)) → (xs : List X) → AllByRecursion P xs → AllByRecursion Q (flat_map f xs)
 all_joined P Q f each [] h = tt
 all_joined P Q f each (x ∷ xs) h = both (f x) (flat_map f xs) (each x h.0) (all_joined P Q f each xs h.1) where
-  both : (a b : List ℕ) → All Q a → All Q b → All Q (a ++ b)
+  both : (a b : List ℕ) → AllByRecursion Q a → AllByRecursion Q b → AllByRecursion Q (a ++ b)
   both [] b p q = q
   both (x ∷ a) b p q = (p.0, both a b p.1 q)
 
-octet_at : (bytes : List ℕ) → All (λ v. v < 256) bytes → Octets bytes
+octet_at : (bytes : List ℕ) → AllByRecursion (λ v. v < 256) bytes → Octets bytes
 octet_at [] h i = omega arith
 octet_at (x ∷ bytes) h zero = h.0
 octet_at (x ∷ bytes) h (suc i) = octet_at bytes h.1 i

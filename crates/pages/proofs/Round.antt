@@ -1,6 +1,6 @@
 -- Reading and writing undo each other. Assumes nothing.
 use Rattle.std.proofs.Common.{◌≡◌, ℕ, zero, suc, ◌+◌, ◌*◌, ◌/◌, ◌%◌, ◌<◌, ◌≤◌, true, false, ◌||◌, ltb, leb, List, [], ◌∷◌, ◌++◌, length, get_or, take, drop, Ok, Err, Result, sym, refl, ap, ◌∙◌, subst, append_assoc, append-nil, add-zero, arith, length-append, length-drop}
-use Rattle.std.specs.List.{flat_map, AllByRecursion as All}
+use Rattle.std.specs.List.{flat_map, AllByRecursion}
 use Rattle.std.proofs.lemmas.List.{take_all, take-append-le, drop_all, drop_more, drop-drop, drop_at, get_or-drop}
 use Rattle.std.proofs.lemmas.Bool.{ltb-false, leb-false, eqb-false, ne_eqb, or_parts, or_from, le-ltb, lt-leb, cond-false}
 use Rattle.pages.specs.declared.lines.Alternative.{Alternative}
@@ -199,7 +199,7 @@ alternatives_back bytes at before (a ∷ more) next f h =
     ∙ ap (λ l. Ok (l, next)) (append_assoc before (a ∷ []) more)
 
 -- fair is: in range, apart, and never falling
-pub map_all : {X : Type 0} {P Q : X → Type 0} → ((x : X) → P x → Q x) → (xs : List X) → All P xs → All Q xs
+pub map_all : {X : Type 0} {P Q : X → Type 0} → ((x : X) → P x → Q x) → (xs : List X) → AllByRecursion P xs → AllByRecursion Q xs
 map_all f [] h = tt
 map_all f (x ∷ xs) h = (f x h.0, map_all f xs h.1)
 
@@ -219,11 +219,11 @@ last_push [] a = refl
 last_push (b ∷ []) a = refl
 last_push (b ∷ d ∷ before) a = last_push (d ∷ before) a
 
-fair_ranges : (before c : Alternatives) → Fair before c → All InRange c
+fair_ranges : (before c : Alternatives) → Fair before c → AllByRecursion InRange c
 fair_ranges before [] f = tt
 fair_ranges before (a ∷ c) f = (f.0, fair_ranges (before ++ a ∷ []) c f.3)
 
-fair_apart : (before c : Alternatives) → Fair before c → All (λ a. seen a.symbol before ≡ false) c × Apart c
+fair_apart : (before c : Alternatives) → Fair before c → AllByRecursion (λ a. seen a.symbol before ≡ false) c × Apart c
 fair_apart before [] f = (tt, tt)
 fair_apart before (a ∷ c) f =
     let p = fair_apart (before ++ a ∷ []) c f.3 in
@@ -234,12 +234,12 @@ fair_rises before [] f = tt
 fair_rises before (a ∷ c) f = (f.2, subst (λ n. Rises n c) (last_push before a) (fair_rises (before ++ a ∷ []) c f.3))
 
 -- what stands behind `a` is neither `a` nor seen before it
-both_unseen : (before : Alternatives) (a : Alternative) (c : Alternatives) → All (λ b. seen b.symbol before ≡ false) c → All (λ b. b.symbol ≡ a.symbol → ⊥) c
-    → All (λ b. seen b.symbol (before ++ a ∷ []) ≡ false) c
+both_unseen : (before : Alternatives) (a : Alternative) (c : Alternatives) → AllByRecursion (λ b. seen b.symbol before ≡ false) c → AllByRecursion (λ b. b.symbol ≡ a.symbol → ⊥) c
+    → AllByRecursion (λ b. seen b.symbol (before ++ a ∷ []) ≡ false) c
 both_unseen before a [] h g = tt
 both_unseen before a (b ∷ c) h g = (seen_join b.symbol before a h.0 (λ e. g.0 (sym e)), both_unseen before a c h.1 g.1)
 
-fair_from : (before c : Alternatives) → All InRange c → All (λ a. seen a.symbol before ≡ false) c → Apart c → Rises (last_penalty before) c → Fair before c
+fair_from : (before c : Alternatives) → AllByRecursion InRange c → AllByRecursion (λ a. seen a.symbol before ≡ false) c → Apart c → Rises (last_penalty before) c → Fair before c
 fair_from before [] ranges unseen apart rises = tt
 fair_from before (a ∷ c) ranges unseen apart rises = (
   ranges.0,
@@ -248,7 +248,7 @@ fair_from before (a ∷ c) ranges unseen apart rises = (
   fair_from (before ++ a ∷ []) c ranges.1 (both_unseen before a c unseen.1 apart.0) apart.1 (subst (λ n. Rises n c) (sym (last_push before a)) rises.1),
 )
 
-unseen_none : (c : Alternatives) → All (λ a. seen a.symbol [] ≡ false) c
+unseen_none : (c : Alternatives) → AllByRecursion (λ a. seen a.symbol [] ≡ false) c
 unseen_none [] = tt
 unseen_none (a ∷ c) = (refl, unseen_none c)
 
@@ -284,7 +284,7 @@ record GotCells (bytes : List ℕ) (at : ℕ) (before : Cells) (due : ℕ) (l : 
   more : Cells
   is : l ≡ before ++ more
   long : length more ≡ due
-  well : All WellFormedCell more
+  well : AllByRecursion WellFormedCell more
   stands : Stands bytes at (flat_map cell_bytes more) next
 
 got_cells : (bytes : List ℕ) (due at : ℕ) (before l : Cells) (next : ℕ) → Octets bytes → at ≤ length bytes
@@ -313,7 +313,7 @@ got_cells bytes (suc due) at before l next all h e =
       stands = stands_join {a = cell_bytes c} one.1 g.stands;
     }
 
-cells_back : (bytes : List ℕ) (at : ℕ) (before more : Cells) (next : ℕ) → All WellFormedCell more → Stands bytes at (flat_map cell_bytes more) next
+cells_back : (bytes : List ℕ) (at : ℕ) (before more : Cells) (next : ℕ) → AllByRecursion WellFormedCell more → Stands bytes at (flat_map cell_bytes more) next
     → read_cells bytes (length more) at before ≡ Ok (before ++ more, next)
 unfolding read_cells
 cells_back bytes at before [] next f h =
@@ -335,7 +335,7 @@ line_read bytes at l next all e =
     let n = counts 24 bytes at p.0 p.1 in
     let g = got_cells bytes p.0 (at + 1) [] l next all (omega (arith, n.room)) p.2 in
     let long : length l ≡ p.0 = ap length g.is ∙ g.long in (
-      record { some = omega (arith, n.low); few = omega (arith, n.high); cells = subst (All WellFormedCell) (sym g.is) g.well },
+      record { some = omega (arith, n.low); few = omega (arith, n.high); cells = subst (AllByRecursion WellFormedCell) (sym g.is) g.well },
       stands_join {a = length l ∷ []} (stands_one bytes at (length l) n.room (n.is ∙ sym long)) (subst (λ x. Stands bytes (at + 1) (flat_map cell_bytes x) next) (sym g.is) g.stands),
     )
 
@@ -349,7 +349,7 @@ line_back bytes at l next f h =
 
 record GotLines (bytes : List ℕ) (at due : ℕ) (lines : Lines) : Type 0 where
   long : length lines ≡ due
-  well : All WellFormedLine lines
+  well : AllByRecursion WellFormedLine lines
   stands : drop at bytes ≡ flat_map line_bytes lines
 
 -- a line before lines was before lines
@@ -373,7 +373,7 @@ got_lines bytes (suc due) at number lines all e =
     subst (GotLines bytes at (suc due)) q.2
     (record { long = ap suc g.long; well = (one.0, g.well); stands = one.1.here ∙ ap (λ rest. line_bytes p.0.0 ++ rest) g.stands })
 
-lines_back : (bytes : List ℕ) (at number : ℕ) (lines : Lines) → All WellFormedLine lines → at ≤ length bytes → drop at bytes ≡ flat_map line_bytes lines
+lines_back : (bytes : List ℕ) (at number : ℕ) (lines : Lines) → AllByRecursion WellFormedLine lines → at ≤ length bytes → drop at bytes ≡ flat_map line_bytes lines
     → read_lines bytes (length lines) at number ≡ Ok lines
 unfolding read_lines
 lines_back bytes at number [] h le e = cond-false (ltb at (length bytes)) _ _ (le-ltb at (length bytes) (omega (arith, ap length e, length-drop at bytes)))

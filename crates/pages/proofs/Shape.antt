@@ -1,23 +1,23 @@
 -- What a well-formed line says, part by part. Assumes nothing.
 use Rattle.std.proofs.Common.{◌≡◌, ℕ, ◌<◌, ◌≤◌, Bool, true, false, List, [], ◌∷◌, length, refl}
-use Rattle.std.specs.List.{AllByRecursion as All}
+use Rattle.std.specs.List.{AllByRecursion}
 use Rattle.std.proofs.lemmas.Bool.{and_parts, and_from, or_parts, or_from, leb-true, le-leb, ltb-true, lt-ltb, eqb-false, ne_eqb, not-true, not_from_false}
 use Rattle.pages.specs.declared.lines.Alternative.{Alternative}
 use Rattle.pages.specs.Shape.{Alternatives, Cells, Lines, seen, in_range, once, rising, every, one_to, well_formed_cell, well_formed_line, well_formed_page}
 
 -- a test that holds of each, and what it tells
-pub all_every : {X : Type 0} (test : X → Bool) (P : X → Type 0) → ((x : X) → test x ≡ true → P x) → (xs : List X) → every test xs ≡ true → All P xs
+pub all_every : {X : Type 0} (test : X → Bool) (P : X → Type 0) → ((x : X) → test x ≡ true → P x) → (xs : List X) → every test xs ≡ true → AllByRecursion P xs
 all_every test P tells [] e = tt
 all_every test P tells (x ∷ xs) e = let p = and_parts _ _ e in (tells x p.0, all_every test P tells xs p.1)
 
-pub every_all : {X : Type 0} (test : X → Bool) (P : X → Type 0) → ((x : X) → P x → test x ≡ true) → (xs : List X) → All P xs → every test xs ≡ true
+pub every_all : {X : Type 0} (test : X → Bool) (P : X → Type 0) → ((x : X) → P x → test x ≡ true) → (xs : List X) → AllByRecursion P xs → every test xs ≡ true
 every_all test P shows [] all = refl
 every_all test P shows (x ∷ xs) all = and_from _ _ (shows x all.0) (every_all test P shows xs all.1)
 
 -- no symbol comes twice
 abbrev pub Apart : Alternatives → Type 0
 Apart [] = Unit {0}
-Apart (a ∷ more) = All (λ b. b.symbol ≡ a.symbol → ⊥) more × Apart more
+Apart (a ∷ more) = AllByRecursion (λ b. b.symbol ≡ a.symbol → ⊥) more × Apart more
 
 -- no penalty is below the one before it, the first not below `low`
 abbrev pub Rises : ℕ → Alternatives → Type 0
@@ -32,25 +32,25 @@ pub record InRange (a : Alternative) : Type 0 where
 pub record WellFormedCell (c : Alternatives) : Type 0 where
   pub some : 1 ≤ length c
   pub few : length c ≤ 8
-  pub ranges : All InRange c
+  pub ranges : AllByRecursion InRange c
   pub apart : Apart c
   pub rises : Rises 0 c
 
 pub record WellFormedLine (l : Cells) : Type 0 where
   pub some : 1 ≤ length l
   pub few : length l ≤ 24
-  pub cells : All WellFormedCell l
+  pub cells : AllByRecursion WellFormedCell l
 
 pub record WellFormedPage (p : Lines) : Type 0 where
   pub some : 1 ≤ length p
   pub few : length p ≤ 40
-  pub lines : All WellFormedLine p
+  pub lines : AllByRecursion WellFormedLine p
 
-unseen_others : (s : ℕ) (l : Alternatives) → seen s l ≡ false → All (λ b. b.symbol ≡ s → ⊥) l
+unseen_others : (s : ℕ) (l : Alternatives) → seen s l ≡ false → AllByRecursion (λ b. b.symbol ≡ s → ⊥) l
 unseen_others s [] e = tt
 unseen_others s (a ∷ more) e = let p = or_parts _ _ e in (eqb-false a.symbol s p.0, unseen_others s more p.1)
 
-others_unseen : (s : ℕ) (l : Alternatives) → All (λ b. b.symbol ≡ s → ⊥) l → seen s l ≡ false
+others_unseen : (s : ℕ) (l : Alternatives) → AllByRecursion (λ b. b.symbol ≡ s → ⊥) l → seen s l ≡ false
 others_unseen s [] all = refl
 others_unseen s (a ∷ more) all = or_from _ _ (ne_eqb a.symbol s all.0) (others_unseen s more all.1)
 

@@ -1,6 +1,6 @@
 -- Why each call makes a lawful moment. Assumes nothing.
 use Rattle.std.proofs.Common.{◌≡◌, ℕ, zero, suc, ◌+◌, ◌-◌, ◌<◌, ◌≤◌, min, Bool, true, false, ◌⊎◌, ◌↔◌, List, [], ◌∷◌, ◌++◌, length, take, drop, Some, None, Option, sym, refl, ap, ◌∙◌, subst, inl, inr, ⊎_elim, arith, length-drop, length-take}
-use Rattle.std.specs.List.{AllByRecursion as All}
+use Rattle.std.specs.List.{AllByRecursion}
 use Rattle.std.proofs.lemmas.List.{take-take, drop-drop}
 use Rattle.std.proofs.lemmas.Slice.{between_is}
 use Rattle.std.proofs.lemmas.Bool.{both_ways, false≢true, cases_lt}
@@ -21,7 +21,7 @@ use Rattle.runs.specs.Runs.{Event, loaded, granted, found, spent, exhausted, rep
 use Rattle.runs.specs.Steps.{Tracks}
 
 -- what holds of each of a list holds of a member
-all_mem : (P : Chain → Type 0) (cs : List Chain) (c : Chain) → All P cs → Mem c cs → P c
+all_mem : (P : Chain → Type 0) (cs : List Chain) (c : Chain) → AllByRecursion P cs → Mem c cs → P c
 all_mem P [] c h m = absurd m
 all_mem P (x ∷ cs) c h (inl e) = subst P (sym e) h.0
 all_mem P (x ∷ cs) c h (inr m) = all_mem P cs c h.1 m
@@ -153,7 +153,7 @@ module _ (s : Meaning) (laws : Laws s) (g : Sets) (lawful : grammars.Lawful g) (
     shut d a b = both_ways (admitted g l d) a b
 
     -- a next that passes over all that is due, with m looked at in the end
-    module _ (m : ℕ) (least : looked_in h ≤ m) (most : m ≤ granted_in h) (whole : m ≤ length (live_chains s g l)) (none : All (λ d. admitted g l d ≡ false) (due s g l (looked_in h) (granted_in h))) where
+    module _ (m : ℕ) (least : looked_in h ≤ m) (most : m ≤ granted_in h) (whole : m ≤ length (live_chains s g l)) (none : AllByRecursion (λ d. admitted g l d ≡ false) (due s g l (looked_in h) (granted_in h))) where
       none_handed : (d : Chain) → Mem d (handed_in h) ↔ (Mem d (take m (live_chains s g l)) × (admitted g l d ≡ true))
       none_handed d = (
         λ k. let q = (t.seen l el d).0 k in (mem_more d (looked_in h) m (live_chains s g l) least q.0, q.1),
@@ -207,19 +207,19 @@ module _ (s : Meaning) (laws : Laws s) (g : Sets) (lawful : grammars.Lawful g) (
     apart_events : {A : Type 0} → ◌≡◌ {A = ℕ} 0 1 → A
     apart_events z = absurd (omega arith)
 
-    pub spent_lawful : granted_in h < length (live_chains s g l) → All (λ d. admitted g l d ≡ false) (due s g l (looked_in h) (granted_in h)) → Lawful s g h (moment spent (granted_in h))
+    pub spent_lawful : granted_in h < length (live_chains s g l) → AllByRecursion (λ d. admitted g l d ≡ false) (due s g l (looked_in h) (granted_in h)) → Lawful s g h (moment spent (granted_in h))
     spent_lawful left none = none_lawful (granted_in h) t.within (omega arith) (omega arith) none spent (inl refl) refl refl refl (λ f. f) (λ c e. let z : ◌≡◌ {A = ℕ} 0 1 = cc in apart_events z) tt
         (λ e. let z : ◌≡◌ {A = ℕ} 0 1 = cc in apart_events z, λ k. absurd (omega arith)) (λ e. (left, refl), λ q. refl)
 
-    pub spent_tracks : (v' : View) → granted_in h < length (live_chains s g l) → All (λ d. admitted g l d ≡ false) (due s g l (looked_in h) (granted_in h))
+    pub spent_tracks : (v' : View) → granted_in h < length (live_chains s g l) → AllByRecursion (λ d. admitted g l d ≡ false) (due s g l (looked_in h) (granted_in h))
         → v' ≡ record { line = v.line; granted = v.granted; looked = granted_in h; handed = v.handed; last_total = v.last_total } → Tracks s g (moment spent (granted_in h) ∷ h) v'
     spent_tracks v' left none is = none_tracks (granted_in h) t.within (omega arith) (omega arith) none spent v' refl refl refl is
 
-    pub exhausted_lawful : length (live_chains s g l) ≤ granted_in h → All (λ d. admitted g l d ≡ false) (due s g l (looked_in h) (granted_in h)) → Lawful s g h (moment exhausted (length (live_chains s g l)))
+    pub exhausted_lawful : length (live_chains s g l) ≤ granted_in h → AllByRecursion (λ d. admitted g l d ≡ false) (due s g l (looked_in h) (granted_in h)) → Lawful s g h (moment exhausted (length (live_chains s g l)))
     exhausted_lawful all none = none_lawful (length (live_chains s g l)) (t.reached l el) all (omega arith) none exhausted (inr refl) refl refl refl (λ f. f) (λ c e. let z : ◌≡◌ {A = ℕ} 0 1 = cc in apart_events z) tt
         (λ e. omega arith, λ k. refl) (λ e. let z : ◌≡◌ {A = ℕ} 0 1 = cc in apart_events z, λ q. let k = q.0 in absurd (omega arith))
 
-    pub exhausted_tracks : (v' : View) → length (live_chains s g l) ≤ granted_in h → All (λ d. admitted g l d ≡ false) (due s g l (looked_in h) (granted_in h))
+    pub exhausted_tracks : (v' : View) → length (live_chains s g l) ≤ granted_in h → AllByRecursion (λ d. admitted g l d ≡ false) (due s g l (looked_in h) (granted_in h))
         → v' ≡ record { line = v.line; granted = v.granted; looked = length (live_chains s g l); handed = v.handed; last_total = v.last_total } → Tracks s g (moment exhausted (length (live_chains s g l)) ∷ h) v'
     exhausted_tracks v' all none is = none_tracks (length (live_chains s g l)) (t.reached l el) all (omega arith) none exhausted v' refl refl refl is
 
@@ -234,8 +234,8 @@ module _ (s : Meaning) (laws : Laws s) (g : Sets) (lawful : grammars.Lawful g) (
           sym (drop-drop n (looked_in h) (live_chains s g l)) ∙ where_due.1
           ∙ ap (λ cs. c ∷ cs) (drop-drop (n + 1) (looked_in h) (live_chains s g l) ∙ (let e : looked_in h + (n + 1) ≡ looked_in h + n + 1 = omega arith in ap (λ k. drop k (live_chains s g l)) e))
 
-      passed : All (λ d. admitted g l d ≡ false) (take n (drop (looked_in h) (live_chains s g l)))
-      passed = let lt = where_due.0 in subst (All (λ d. admitted g l d ≡ false)) (take-take n (granted_in h - looked_in h) (drop (looked_in h) (live_chains s g l)) (omega arith)) first.passed_over
+      passed : AllByRecursion (λ d. admitted g l d ≡ false) (take n (drop (looked_in h) (live_chains s g l)))
+      passed = let lt = where_due.0 in subst (AllByRecursion (λ d. admitted g l d ≡ false)) (take-take n (granted_in h - looked_in h) (drop (looked_in h) (live_chains s g l)) (omega arith)) first.passed_over
 
       c_behind : Mem c (drop (looked_in h) (live_chains s g l))
       c_behind = mem_drop c n (drop (looked_in h) (live_chains s g l)) (subst (Mem c) (sym where_due.1) (inl refl))

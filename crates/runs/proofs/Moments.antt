@@ -1,6 +1,6 @@
 -- What each call makes of a history, from what its contract says. Assumes nothing.
 use Rattle.std.proofs.Common.{◌≡◌, ℕ, zero, suc, ◌+◌, ◌-◌, ◌<◌, ◌≤◌, min, Bool, true, false, ◌⊎◌, ◌↔◌, List, [], ◌∷◌, ◌++◌, length, take, drop, Some, None, Ok, Err, Option, sym, refl, ap, ◌∙◌, subst, inl, inr, ⊎_elim, append_assoc, arith, length-drop, take-append-drop, length-take}
-use Rattle.std.specs.List.{AllByRecursion as All}
+use Rattle.std.specs.List.{AllByRecursion}
 use Rattle.std.proofs.lemmas.List.{take_all, drop_all, drop-drop}
 use Rattle.std.proofs.lemmas.Bool.{cases_lt}
 use Rattle.scores.specs.Scores.{Meaning, Laws}
@@ -108,11 +108,11 @@ module _ (s : Meaning) (g : Sets) (pages : List ℕ) (v v' : View) (places : Lis
   )
 
   module _ (laws : Laws s) (lawful : grammars.Lawful g) (part : Part) (places' : List ℕ) (l : Cells) (line : v.line ≡ Some l) (room : length l ≤ length (cut places part)) where
-    pub spent_made : All (λ d. admitted g l d ≡ false) (due s g l v.looked v.granted) → v.granted < length (ranking s g.allows l) → places' ≡ places
+    pub spent_made : AllByRecursion (λ d. admitted g l d ≡ false) (due s g l v.looked v.granted) → v.granted < length (ranking s g.allows l) → places' ≡ places
         → v' ≡ record { line = v.line; granted = v.granted; looked = v.granted; handed = v.handed; last_total = v.last_total } → Made s g pages v places (call.Next part) answer.Spent v' places'
     spent_made none left same is h t =
         let el : line_in h ≡ Some l = t.line ∙ line in
-        let none' : All (λ d. admitted g l d ≡ false) (due s g l (looked_in h) (granted_in h)) = subst (λ k. All (λ d. admitted g l d ≡ false) (due s g l k (granted_in h))) (sym t.looked_is) (subst (λ k. All (λ d. admitted g l d ≡ false) (due s g l v.looked k)) (sym t.granted_is) none) in
+        let none' : AllByRecursion (λ d. admitted g l d ≡ false) (due s g l (looked_in h) (granted_in h)) = subst (λ k. AllByRecursion (λ d. admitted g l d ≡ false) (due s g l k (granted_in h))) (sym t.looked_is) (subst (λ k. AllByRecursion (λ d. admitted g l d ≡ false) (due s g l v.looked k)) (sym t.granted_is) none) in
         let left' : granted_in h < length (live_chains s g l) = omega (arith, t.granted_is) in (
           moment spent (granted_in h),
           subst (CallMade s g pages h places (call.Next part) answer.Spent (moment spent (granted_in h))) (sym same) (next_spent el room),
@@ -120,11 +120,11 @@ module _ (s : Meaning) (g : Sets) (pages : List ℕ) (v v' : View) (places : Lis
           spent_tracks s laws g lawful l h v t el v' left' none' (is ∙ ap (λ k. record { line = v.line; granted = v.granted; looked = k; handed = v.handed; last_total = v.last_total }) (sym t.granted_is)),
         )
 
-    pub exhausted_made : All (λ d. admitted g l d ≡ false) (due s g l v.looked v.granted) → length (ranking s g.allows l) ≤ v.granted → places' ≡ places
+    pub exhausted_made : AllByRecursion (λ d. admitted g l d ≡ false) (due s g l v.looked v.granted) → length (ranking s g.allows l) ≤ v.granted → places' ≡ places
         → v' ≡ record { line = v.line; granted = v.granted; looked = length (ranking s g.allows l); handed = v.handed; last_total = v.last_total } → Made s g pages v places (call.Next part) answer.Exhausted v' places'
     exhausted_made none all same is h t =
         let el : line_in h ≡ Some l = t.line ∙ line in
-        let none' : All (λ d. admitted g l d ≡ false) (due s g l (looked_in h) (granted_in h)) = subst (λ k. All (λ d. admitted g l d ≡ false) (due s g l k (granted_in h))) (sym t.looked_is) (subst (λ k. All (λ d. admitted g l d ≡ false) (due s g l v.looked k)) (sym t.granted_is) none) in
+        let none' : AllByRecursion (λ d. admitted g l d ≡ false) (due s g l (looked_in h) (granted_in h)) = subst (λ k. AllByRecursion (λ d. admitted g l d ≡ false) (due s g l k (granted_in h))) (sym t.looked_is) (subst (λ k. AllByRecursion (λ d. admitted g l d ≡ false) (due s g l v.looked k)) (sym t.granted_is) none) in
         let all' : length (live_chains s g l) ≤ granted_in h = omega (arith, t.granted_is) in (
           moment exhausted (length (live_chains s g l)),
           subst (CallMade s g pages h places (call.Next part) answer.Exhausted (moment exhausted (length (live_chains s g l)))) (sym same) (next_exhausted el room),

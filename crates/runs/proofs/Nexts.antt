@@ -1,6 +1,6 @@
 -- What the value of a next says, case by case. Assumes nothing.
 use Rattle.std.proofs.Common.{◌≡◌, ℕ, ◌+◌, ◌<◌, ◌≤◌, min, Bool, true, false, cond, ltb, List, ◌++◌, length, drop, Some, None, Ok, Err, Option, Result, sym, refl, ap, ◌∙◌, subst, arith}
-use Rattle.std.specs.List.{AllByRecursion as All}
+use Rattle.std.specs.List.{AllByRecursion}
 use Rattle.std.proofs.lemmas.Bool.{ltb-true, ltb-false}
 use Rattle.pages.specs.Shape.{Cells}
 use Rattle.scores.specs.Scores.{Meaning}
@@ -24,11 +24,11 @@ ComesTo s g l before place (Found bytes) after place' =
     × (bytes ≡ length l) × (place' ≡ text l c ++ drop (length l) place)
     × (after ≡ record { line = before.line; granted = before.granted; looked = before.looked + n + 1; handed = before.handed + 1; last_total = Some (total s l c) })
 ComesTo s g l before place Spent after place' =
-    All (λ d. admitted g l d ≡ false) (due s g l before.looked before.granted)
+    AllByRecursion (λ d. admitted g l d ≡ false) (due s g l before.looked before.granted)
     × (before.granted < length (ranking s g.allows l)) × (place' ≡ place)
     × (after ≡ record { line = before.line; granted = before.granted; looked = before.granted; handed = before.handed; last_total = before.last_total })
 ComesTo s g l before place Exhausted after place' =
-    All (λ d. admitted g l d ≡ false) (due s g l before.looked before.granted)
+    AllByRecursion (λ d. admitted g l d ≡ false) (due s g l before.looked before.granted)
     × (length (ranking s g.allows l) ≤ before.granted) × (place' ≡ place)
     × (after ≡ record { line = before.line; granted = before.granted; looked = length (ranking s g.allows l); handed = before.handed; last_total = before.last_total })
 
@@ -41,7 +41,7 @@ module _ (s : Meaning) (g : Sets) (v : View) (place : List ℕ) where
   OutOf x = Out x.answer x.state x.place
 
   -- nothing found, and a live chain left or not
-  left_or_not : (l : Cells) → v.line ≡ Some l → length l ≤ length place → All (λ d. admitted g l d ≡ false) (due s g l v.looked v.granted)
+  left_or_not : (l : Cells) → v.line ≡ Some l → length l ≤ length place → AllByRecursion (λ d. admitted g l d ≡ false) (due s g l v.looked v.granted)
       → (b : Bool) → ltb v.granted (length (ranking s g.allows l)) ≡ b
       → Out (Ok (cond b Spent Exhausted)) (record { line = v.line; granted = v.granted; looked = min v.granted (length (ranking s g.allows l)); handed = v.handed; last_total = v.last_total }) place
   left_or_not l e room none true q =

@@ -1,7 +1,7 @@
 -- Within the two figures of a score no total is held at its limit.
 use Rattle.std.proofs.Common.{◌≡◌, ℕ, ◌+◌, ◌-◌, ◌*◌, ◌^◌, ◌≤◌, min, List, [], ◌∷◌, length, ap, ◌∙◌, mul-le-mul_right, mul_assoc, mul-le-mul_left, one-mul, pow-suc, mul-one, arith}
 use native.Mathlib.Nat.{pow-le-pow_right}
-use Rattle.std.specs.List.{AllByRecursion as All}
+use Rattle.std.specs.List.{AllByRecursion}
 use Rattle.scores.specs.Scores.{Taken, stepped, sum_meaning, shares_meaning, penalty_sum, share_product, Exact}
 
 sum_from : (ps : List ℕ) (t : ℕ) → t + penalty_sum ps ≤ 4294967295 → stepped sum_meaning t ps ≡ t + penalty_sum ps
@@ -10,7 +10,7 @@ sum_from (p ∷ ps) t h =
     let e : min (t + p) 4294967295 ≡ t + p = omega arith in
     ap (λ k. stepped sum_meaning k ps) e ∙ sum_from ps (t + p) (omega arith) ∙ omega arith
 
-sum_most : (ps : List ℕ) → All (λ p. p ≤ 65535) ps → penalty_sum ps ≤ 65535 * length ps
+sum_most : (ps : List ℕ) → AllByRecursion (λ p. p ≤ 65535) ps → penalty_sum ps ≤ 65535 * length ps
 sum_most [] h = omega arith
 sum_most (p ∷ ps) h = let rest = sum_most ps h.1 in omega (arith, h.0)
 
@@ -20,7 +20,7 @@ sum_exact ps h =
     let few = h.0 in
     sum_from ps 0 (omega arith) ∙ omega arith
 
-product_some : (ps : List ℕ) → All (λ p. p ≤ 99) ps → 1 ≤ share_product ps
+product_some : (ps : List ℕ) → AllByRecursion (λ p. p ≤ 99) ps → 1 ≤ share_product ps
 product_some [] h = omega arith
 product_some (p ∷ ps) h =
     let share : 1 ≤ 100 - p = omega (arith, h.0) in
@@ -36,7 +36,7 @@ product_most (p ∷ ps) =
     let rest = product_most ps in
     omega (arith, pow-suc 100 (length ps))
 
-shares_from : (ps : List ℕ) (t : ℕ) → All (λ p. p ≤ 99) ps → t * share_product ps ≤ 1000000000000000000 → stepped shares_meaning t ps ≡ t * share_product ps
+shares_from : (ps : List ℕ) (t : ℕ) → AllByRecursion (λ p. p ≤ 99) ps → t * share_product ps ≤ 1000000000000000000 → stepped shares_meaning t ps ≡ t * share_product ps
 shares_from [] t h small = omega arith
 shares_from (p ∷ ps) t h small =
     let x = t * (100 - p) in

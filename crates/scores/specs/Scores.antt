@@ -1,6 +1,6 @@
 -- What a score means, what it is held to, and what the two scores mean.
 use Rattle.std.specs.Prelude.{◌≡◌, ℕ, ◌+◌, ◌-◌, ◌*◌, ◌^◌, ◌<◌, ◌≤◌, min, Bool, true, not, ◌&&◌, ◌⊎◌, List, [], ◌∷◌, length, nat_le}
-use Rattle.std.specs.List.{AllByRecursion as All}
+use Rattle.std.specs.List.{AllByRecursion}
 
 -- The meaning of a score: the start total, the step from a total and a penalty to a total, whether one total is no worse than
 -- another, and the most cells and the highest penalty that it takes.
@@ -33,7 +33,7 @@ stepped s t (p ∷ ps) = stepped s (s.step t p) ps
 
 -- ps are at most as many penalties as the score takes cells, none above its highest
 abbrev pub Taken : Meaning → List ℕ → Type 0
-Taken s ps = (length ps ≤ s.most_cells) × All (λ p. p ≤ s.highest_penalty) ps
+Taken s ps = (length ps ≤ s.most_cells) × AllByRecursion (λ p. p ≤ s.highest_penalty) ps
 
 -- Sum: penalties are added, held at 4,294,967,295, and smaller is better
 abbrev pub sum_meaning : Meaning

@@ -3,7 +3,7 @@ use Rattle.std.proofs.Common.{◌≡◌, ℕ, zero, suc, ◌<◌, ◌≤◌, tru
 use mathlib.Core.Option.{Option, none, some}
 use Rattle.std.proofs.lemmas.List.{get_or-set_same, get_or-set_other}
 use Rattle.std.proofs.lemmas.Bool.{cases_order, cases_eq}
-use Rattle.std.specs.List.{AllByRecursion as All}
+use Rattle.std.specs.List.{AllByRecursion}
 use Rattle.pages.specs.declared.lines.Alternative.{Alternative}
 use Rattle.pages.specs.Shape.{Alternatives, well_formed_line}
 use Rattle.pages.proofs.Shape.{Rises, WellFormedCell, line_parts}
@@ -78,7 +78,7 @@ lower_set (x ∷ c) (suc i) r h = lower_same x x (set c i r) c refl (lower_set c
 
 -- each cell has an alternative, and penalties never fall within a cell
 abbrev pub Sound : Cells → Type 0
-Sound line = All (λ cell. (1 ≤ length cell) × ((i j : ℕ) (d : Alternative) → i ≤ j → j < length cell → (get_or cell i d).penalty ≤ (get_or cell j d).penalty)) line
+Sound line = AllByRecursion (λ cell. (1 ≤ length cell) × ((i j : ℕ) (d : Alternative) → i ≤ j → j < length cell → (get_or cell i d).penalty ≤ (get_or cell j d).penalty)) line
 
 from_low : (low : ℕ) (cell : Alternatives) → Rises low cell → (j : ℕ) (d : Alternative) → j < length cell → low ≤ (get_or cell j d).penalty
 from_low low [] h j d l = absurd (omega arith)
@@ -95,7 +95,7 @@ never_fall low (a ∷ cell) h (suc i) (suc j) d le l = never_fall a.penalty cell
 pub sound : (line : Cells) → well_formed_line line ≡ true → Sound line
 sound line e = each line (line_parts line e).cells
   where
-    each : (cells : Cells) → All WellFormedCell cells → Sound cells
+    each : (cells : Cells) → AllByRecursion WellFormedCell cells → Sound cells
     each [] h = tt
     each (cell ∷ cells) h = ((h.0.some, never_fall 0 cell h.0.rises), each cells h.1)
 

@@ -1,7 +1,7 @@
 -- A chain and its text determine each other, and a chain whose text is admitted is live. Assumes nothing.
 use Rattle.std.proofs.Common.{◌≡◌, ℕ, zero, suc, ◌<◌, true, [], ◌∷◌, length, get_or, sym, refl, ap, arith}
 use mathlib.Core.Option.{Option, none, some}
-use Rattle.std.specs.List.{AllByRecursion as All}
+use Rattle.std.specs.List.{AllByRecursion}
 use Rattle.std.proofs.ByRecursion.{All-get_or}
 use Rattle.pages.specs.Shape.{Alternatives, Cells}
 use Rattle.pages.proofs.Shape.{Apart, WellFormedCell, line_parts}
@@ -16,7 +16,7 @@ same_rank (a ∷ cell) h zero (suc r) lq lr e = absurd (All-get_or _ cell r no_a
 same_rank (a ∷ cell) h (suc q) zero lq lr e = absurd (All-get_or _ cell q no_alt (omega arith) h.0 e)
 same_rank (a ∷ cell) h (suc q) (suc r) lq lr e = ap suc (same_rank cell h.1 q r (omega arith) (omega arith) e)
 
-same_chain : (line : Cells) → All WellFormedCell line → (a b : Chain) → ChainOf line a → ChainOf line b → text line a ≡ text line b → a ≡ b
+same_chain : (line : Cells) → AllByRecursion WellFormedCell line → (a b : Chain) → ChainOf line a → ChainOf line b → text line a ≡ text line b → a ≡ b
 same_chain [] h [] [] ca cb e = refl
 same_chain [] h [] (y ∷ b) ca cb e = let z = cb.long in absurd (omega arith)
 same_chain [] h (x ∷ a) b ca cb e = let z = ca.long in absurd (omega arith)

@@ -1,5 +1,5 @@
 use Rattle.std.proofs.Common.{◌≡◌, ℕ, ◌+◌, ◌-◌, ◌<◌, ◌≤◌, min, false, length, take, drop, Some, None, sym, ap, ◌∙◌, subst, arith, length-drop}
-use Rattle.std.specs.List.{AllByRecursion as All}
+use Rattle.std.specs.List.{AllByRecursion}
 use Rattle.std.proofs.lemmas.List.{take-take, take_all}
 use Rattle.pages.specs.declared.lines.Line.{Line}
 use Rattle.pages.specs.Answers.{line_of}
@@ -27,7 +27,7 @@ loop-k-init g c =
     let sets = g.G.Grammar.meaning c.args.grammar.now in
     let l = line_of c.args.line.now in
     let none : c.args.looked - c.args.looked ≡ 0 = omega arith in
-    (c.requires.agrees, subst (λ n. All (λ d. admitted sets l d ≡ false) (take n (drop c.args.looked (ranking g.S.Score.meaning sets.allows l)))) (sym none) tt)
+    (c.requires.agrees, subst (λ n. AllByRecursion (λ d. admitted sets l d ≡ false) (take n (drop c.args.looked (ranking g.S.Score.meaning sets.allows l)))) (sym none) tt)
 
 pub look-requires : goal.look-requires
 look-requires g c =
@@ -54,7 +54,7 @@ returns-in_default g c =
     take_all (k - looked) (drop looked rk) (omega (arith, length-drop looked rk)) ∙ sym (take_all (granted - looked) (drop looked rk) (omega (arith, length-drop looked rk, c.loop-k-test.true))) in
     record {
       agrees = agrees_empty s sets.allows l k granted c.loop-k.self c.look.new.self c.loop-k.invariant.0 told.0 told.1;
-      sought = sym (ap (came_to s l looked granted (length rk)) (none_passes (admitted sets l) (due s sets l looked granted) (subst (All (λ d. admitted sets l d ≡ false)) all c.loop-k.invariant.1))
+      sought = sym (ap (came_to s l looked granted (length rk)) (none_passes (admitted sets l) (due s sets l looked granted) (subst (AllByRecursion (λ d. admitted sets l d ≡ false)) all c.loop-k.invariant.1))
           ∙ ap (λ n. record { looked = n; reading = None }) (let last : min granted (length rk) ≡ k = omega (arith, c.loop-k-test.true) in last));
     }
 
@@ -82,7 +82,7 @@ returns-then-is_admitted g c =
     record {
       agrees = look_agrees s laws sets lawful l line.sound k granted c.loop-k.self c.look.new.self c.in-Some.reading c.loop-k.invariant.0 seen lt;
       sought = sym (ap (came_to s l looked granted (length rk)) (passes_first (admitted sets l) (k - looked) (due s sets l looked granted) seen.chain
-          (subst (All (λ d. admitted sets l d ≡ false)) (sym (take-take (k - looked) (granted - looked) (drop looked rk) short)) c.loop-k.invariant.1)
+          (subst (AllByRecursion (λ d. admitted sets l d ≡ false)) (sym (take-take (k - looked) (granted - looked) (drop looked rk) short)) c.loop-k.invariant.1)
           (here_in (λ d. admitted sets l d ≡ false) rk looked k le granted seen.chain lt next.1)
           (sym (c.if-is_admitted.ensures ∙ asked)))
           ∙ (λ i. record { looked = last i; reading = Some (sym seen.reads i) }));
@@ -121,6 +121,6 @@ returns g c =
     let reached = c.loop-k.invariant.0.frontier.reached in
     record {
       agrees = subst (λ n. AgreesAt s sets.allows l n granted c.loop-k.self) end c.loop-k.invariant.0;
-      sought = sym (ap (came_to s l looked granted (length rk)) (none_passes (admitted sets l) (due s sets l looked granted) (subst (λ n. All (λ d. admitted sets l d ≡ false) (take (n - looked) (drop looked rk))) end c.loop-k.invariant.1))
+      sought = sym (ap (came_to s l looked granted (length rk)) (none_passes (admitted sets l) (due s sets l looked granted) (subst (λ n. AllByRecursion (λ d. admitted sets l d ≡ false) (take (n - looked) (drop looked rk))) end c.loop-k.invariant.1))
           ∙ ap (λ n. record { looked = n; reading = None }) (let last : min granted (length rk) ≡ granted = omega arith in last));
     }

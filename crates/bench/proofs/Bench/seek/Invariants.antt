@@ -1,5 +1,5 @@
 use Rattle.std.proofs.Common.{◌≡◌, ◌-◌, false, take, drop}
-use Rattle.std.specs.List.{AllByRecursion as All}
+use Rattle.std.specs.List.{AllByRecursion}
 use Rattle.pages.specs.Answers.{line_of}
 use Rattle.search.specs.Chains.{ranking}
 use Rattle.bench.specs.Searched.{AgreesAt, admitted}
@@ -9,4 +9,4 @@ use Rattle.bench.proofs.Bench.seek.Given as goal
 abbrev pub invariant-loop-k : goal.invariant-loop-k
 invariant-loop-k g l =
     AgreesAt g.S.Score.meaning (g.G.Grammar.meaning l.grammar).allows (line_of l.line) l.k l.granted l.self
-    × All (λ d. admitted (g.G.Grammar.meaning l.grammar) (line_of l.line) d ≡ false) (take (l.k - l.looked) (drop l.looked (ranking g.S.Score.meaning (g.G.Grammar.meaning l.grammar).allows (line_of l.line))))
+    × AllByRecursion (λ d. admitted (g.G.Grammar.meaning l.grammar) (line_of l.line) d ≡ false) (take (l.k - l.looked) (drop l.looked (ranking g.S.Score.meaning (g.G.Grammar.meaning l.grammar).allows (line_of l.line))))
