@@ -2,12 +2,11 @@
 use Rattle.std.specs.Prelude.{◌≡◌, ℕ, ◌<◌, Bool, true, false, cond, ◌⊎◌, List, length, take, slice_index}
 use Rattle.std.specs.declared.cmp.Ordering.TheVariants.{Less, Equal, Greater}
 use Rattle.std.specs.declared.cmp.Ordering.{Ordering}
-use Rattle.std.specs.Ordering.{ordering_then}
+use Rattle.std.specs.Ordering.{ordering_then, nat_cmp}
 use Rattle.std.specs.BinaryHeap.{IsHeap}
 use Rattle.std.specs.List.{AllByRecursion}
 use Rattle.bench.specs.declared.places.Place.{Place}
 use Rattle.bench.specs.Ranks.{ranks_of}
-use Rattle.std.specs.Ordering as std-orderings
 use Rattle.std.specs.Cmp.Lexicographic.{slice_cmp}
 
 -- the better total is the greater
@@ -17,11 +16,11 @@ by_total no_worse a b = cond (no_worse a b) (cond (no_worse b a) Equal Greater) 
 -- a heap gives its greatest first, so what stands before is greater: by the total, and with totals equally good by the
 -- ranks, the lower in the first cell where they differ
 abbrev pub standing : {S : Type 0} → (ℕ → ℕ → Bool) → Place S → Place S → Ordering
-standing no_worse x y = ordering_then (by_total no_worse x.total y.total) (slice_cmp std-orderings.nat_cmp (ranks_of y.ranks) (ranks_of x.ranks))
+standing no_worse x y = ordering_then (by_total no_worse x.total y.total) (slice_cmp nat_cmp (ranks_of y.ranks) (ranks_of x.ranks))
 
 -- the items of a heap of places
 abbrev pub Ready : {S : Type 0} → (ℕ → ℕ → Bool) → List (Place S) → Type 0
-Ready no_worse xs = IsHeap (λ x y r. r ≡ standing no_worse x y) xs
+Ready no_worse xs = IsHeap (standing no_worse) xs
 
 -- in the first cell where they differ xs has the lower rank
 abbrev pub Lower : List ℕ → List ℕ → Type 0

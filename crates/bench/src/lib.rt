@@ -46,7 +46,7 @@ pub struct Sought {
 
 // Room for 4,096 places, got when the bench is made and never asked for again.
 #[derive(Drop)]
-pub struct Bench<S> {
+pub struct Bench<S: Score> {
     places: BinaryHeap<Place<S>>,
 }
 

@@ -2,10 +2,8 @@
 ghost use Rattle.std.specs.Prelude.{◌≡◌, Some, refl};
 ghost use Rattle.std.specs.Ordering.{is_eq};
 ghost use Rattle.bench.specs.Order.{standing};
-ghost use Rattle.std.specs.Cmp.Rules.{comparing};
-ghost use Rattle.std.proofs.Common.{rules};
-ghost use Rattle.std.specs.Cmp as Keys;
-ghost use Rattle.std.specs.Cmp.{partial_order_from_agreeing_total};
+ghost use Rattle.bench.specs.OrderLemmas.{places};
+ghost use Rattle.std.specs.Cmp.{eq_by_cmp_equiv, partial_equiv_from_equiv, partial_order_from_agreeing_total};
 
 use crate::ranks::Ranks;
 use scores::Score;
@@ -39,7 +37,7 @@ impl<S: Score> Place<S> {
 impl<S: Score> PartialEq for Place<S> {
     ghost eq = { λ x y. is_eq (standing S.Score.meaning.no_worse x y) };
 
-    ghost laws = { Keys.partial_equiv_from_equiv (Prim.search (comparing, rules)) };
+    ghost laws = { partial_equiv_from_equiv (eq_by_cmp_equiv (places S.Score.laws)) };
 
     fn eq(&self, other: &Place<S>) -> bool {
         self.against(other).is_eq()
@@ -47,13 +45,13 @@ impl<S: Score> PartialEq for Place<S> {
 }
 
 impl<S: Score> Eq for Place<S> {
-    ghost laws = { Prim.search (comparing, rules) };
+    ghost laws = { eq_by_cmp_equiv (places S.Score.laws) };
 }
 
 impl<S: Score> PartialOrd for Place<S> {
     ghost partial_cmp = { λ x y. Some (standing S.Score.meaning.no_worse x y) };
 
-    ghost laws = { partial_order_from_agreeing_total (λ x y. standing S.Score.meaning.no_worse x y) (Prim.search (comparing, rules)) (λ _ _. refl) (Prim.search (comparing, rules)) };
+    ghost laws = { partial_order_from_agreeing_total (standing S.Score.meaning.no_worse) (places S.Score.laws) (λ _ _. refl) (λ _ _. refl) };
 
     fn partial_cmp(&self, other: &Place<S>) -> Option<Ordering> {
         Some(self.against(other))
@@ -63,11 +61,11 @@ impl<S: Score> PartialOrd for Place<S> {
 impl<S: Score> Ord for Place<S> {
     ghost cmp = { λ x y. standing S.Score.meaning.no_worse x y };
 
-    ghost total = { Prim.search (comparing, rules) };
+    ghost total = { places S.Score.laws };
 
-    ghost matches_partial_cmp = { Prim.search (comparing, rules) };
+    ghost matches_partial_cmp = { λ _ _. refl };
 
-    ghost matches_eq = { Prim.search (comparing, rules) };
+    ghost matches_eq = { λ _ _. refl };
 
     fn cmp(&self, other: &Place<S>) -> Ordering {
         self.against(other)

@@ -3,7 +3,6 @@ use Rattle.pages.specs.Answers.{line_of}
 use Rattle.search.specs.Chains.{ChainOf, root}
 use Rattle.bench.specs.declared.Bench.{Bench}
 use Rattle.bench.specs.Ranks.{chain_in}
-use Rattle.bench.proofs.Orders.{ready_none}
 use Rattle.bench.proofs.Benches.{holds_none, holds_self, holds_same}
 use Rattle.bench.proofs.Lines.{flat_root, flat_chain}
 use Rattle.bench.proofs.Searches.{agrees_root}
@@ -16,7 +15,7 @@ put-requires g c =
     let s = g.S.Score.meaning in
     let cleared : Bench _ = record { places = c.clear.new.self } in
     let told = c.clear.ensures in
-    let none = holds_none s l cleared (ready_none s.no_worse (heap_items c.clear.new.self) told.items) (omega (arith, told.capacity, c.requires)) told.items in
+    let none = holds_none s l cleared told.heap_order (omega (arith, told.capacity, c.requires)) told.items in
     record {
       holds = holds_self s l cleared [] none;
       room = let e = none.many in omega arith;

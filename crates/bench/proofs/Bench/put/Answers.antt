@@ -17,4 +17,4 @@ returns g c =
     let told = c.in-Ok.ensures in
     holds_put g.S.Score.meaning (line_of c.args.line.now) c.args.self.now (record { places = c.push.new.self })
     (record { total = c.total_of-total.result; ranks = c.args.ranks; score = _ })
-    c.requires.holds (λ o. told.items.1 o (c.requires.holds.ready o)) told.capacity told.items.0 c.requires.chain c.total_of-total.ensures
+    c.requires.holds (told.heap_order c.requires.holds.ready) told.capacity told.permutation c.requires.chain c.total_of-total.ensures
