@@ -16,7 +16,7 @@ use std::alloc::{AllocError, Global};
 const MOST_GRANTED: usize = 4095;
 
 #[derive(Drop)]
-pub struct Reader<G, S> {
+pub struct Reader<G, S: Score> {
     grammar: G,
     score: S,
     bench: Bench<S>,
