@@ -1,27 +1,25 @@
 -- What a bench holds after a place is put onto it or taken from it. Assumes nothing.
-use Rattle.std.proofs.Common.{◌≡◌, ℕ, zero, suc, ◌+◌, ◌-◌, ◌<◌, ◌≤◌, Bool, true, false, cond, not, ◌&&◌, ◌||◌, eqb, ltb, leb, ◌⊎◌, ◌↔◌, List, [], ◌∷◌, ◌++◌, map, length, get_or, take, set, heap_items, sym, refl, ap, ◌∙◌, subst, inl, inr, ⊎_elim, add-one, arith, length-append, length-take, get_or-take}
-use mathlib.Core.Option.{Option, none, some}
+use Rattle.std.proofs.Common.{◌≡◌, ℕ, zero, suc, ◌+◌, ◌<◌, ◌≤◌, Bool, true, false, cond, not, ◌&&◌, ◌||◌, eqb, ltb, leb, ◌⊎◌, List, [], ◌∷◌, ◌++◌, map, length, get_or, take, set, heap_items, sym, refl, ap, ◌∙◌, subst, inl, inr, ⊎_elim, arith, length-append, length-take, get_or-take}
 use lib.Seq.{take-set-lt}
 use Rattle.std.specs.BinaryHeap.{heap_capacity}
 use Rattle.std.specs.List.Sorted.{IsPermutation}
 use Rattle.std.specs.List.{AllByRecursion}
-use Rattle.std.proofs.lemmas.List.Sorted.{length_permutation, IsPermutation-sym}
+use Rattle.std.proofs.lemmas.List.Sorted.{length_permutation}
 use Rattle.std.proofs.ByRecursion.{all_shuffled}
 use Rattle.std.proofs.lemmas.List.{length-map, take-take, append-nil}
-use Rattle.std.proofs.lemmas.Bool.{and_parts, and_left, and_from, and_right, or_cases, ltb-true, eqb-true, le-leb, lt-leb, lt-ltb, le-ltb, cond-false, cond-true, cases_Bool, cases_lt, false≢true, both_ways}
+use Rattle.std.proofs.lemmas.Bool.{and_parts, and_left, and_from, and_right, or_cases, ltb-true, eqb-true, le-leb, lt-leb, lt-ltb, le-ltb, cond-false, cases_Bool, false≢true}
 use Rattle.scores.specs.Scores.{Meaning}
 use Rattle.grammars.specs.Grammars.{Texts}
 use Rattle.search.specs.Members.{Mem}
 use Rattle.pages.specs.Shape.{Cells}
-use Rattle.search.specs.Chains.{Chain, ChainOf, text, total, lower, before, last_raised, or_zero, raised, may_raise, children_below, children}
-use Rattle.search.specs.BestFirst.{Unbeaten}
+use Rattle.search.specs.Chains.{Chain, ChainOf, text, total, lower, before, last_raised, or_zero, raised, may_raise, children_below}
 use Rattle.search.proofs.Raised.{chain_set}
 use Rattle.bench.specs.declared.ranks.Ranks.{Ranks}
 use Rattle.bench.specs.declared.places.Place.{Place}
 use Rattle.bench.specs.declared.Bench.{Bench}
 use Rattle.bench.specs.Order.{Ready, First, Before, Lower}
 use Rattle.bench.specs.Ranks.{ranks_of, chain_in}
-use Rattle.bench.specs.Held.{in_use, Placed, on_bench, same, once, times, Holds, Taken}
+use Rattle.bench.specs.Held.{in_use, Placed, on_bench, once, times, Holds, Taken}
 use Rattle.bench.proofs.Counts.{times_append, times_shuffled}
 
 -- what is in use, as chains

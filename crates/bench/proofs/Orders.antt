@@ -1,12 +1,11 @@
 -- What the order of places gives: the first of a heap stands before all others. Assumes nothing.
-use Rattle.std.proofs.Common.{◌≡◌, ℕ, zero, suc, ◌<◌, Bool, true, false, cond, eqb, ltb, ◌⊎◌, List, [], ◌∷◌, length, get_or, take, Some, None, Option, Ordering, Less, Equal, Greater, sym, refl, ap, ◌∙◌, subst, ⊎_elim, true≢false, arith, MatchOption, IfSome, IfNone}
+use Rattle.std.proofs.Common.{◌≡◌, ℕ, zero, suc, ◌<◌, Bool, true, false, cond, eqb, ltb, List, [], ◌∷◌, length, get_or, take, Some, None, Option, Ordering, Less, Equal, Greater, sym, ap, ◌∙◌, subst, ⊎_elim, true≢false, arith, MatchOption, IfSome, IfNone}
 use Rattle.std.specs.List.Sorted.{IsPermutation}
-use Rattle.std.specs.BinaryHeap.{PopsGreatest, IsHeap}
-use Rattle.std.specs.Ordering.{ordering_then, ordering_reverse, is_eq, is_lt, nat_cmp}
+use Rattle.std.specs.BinaryHeap.{PopsGreatest}
+use Rattle.std.specs.Ordering.{ordering_then, is_lt, nat_cmp}
 use Rattle.std.specs.Cmp.Lexicographic.{slice_cmp}
 use Rattle.std.specs.List.{AllByRecursion}
 use Rattle.std.proofs.lemmas.Bool.{lt-ltb, le-ltb, eq-eqb}
-use Rattle.scores.specs.Scores.{Meaning, Laws}
 use Rattle.bench.specs.declared.places.Place.{Place}
 use Rattle.bench.specs.Ranks.{ranks_of}
 use Rattle.bench.specs.Order.{by_total, standing, Ready, Before, First}

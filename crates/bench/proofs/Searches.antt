@@ -1,10 +1,9 @@
 -- A look goes on in the ranking, and a search stops at the first that is admitted. Assumes nothing.
-use Rattle.std.proofs.Common.{◌≡◌, ℕ, zero, suc, ◌+◌, ◌-◌, ◌*◌, ◌<◌, ◌≤◌, min, Bool, true, false, cond, ◌⊎◌, ◌↔◌, List, [], ◌∷◌, ◌++◌, length, take, drop, Some, None, Option, sym, refl, ap, ◌∙◌, subst, inl, inr, ⊎_elim, mul_comm, mul-le-mul_left, mul-zero, mul-suc, arith, length-append, length-drop, length-take}
+use Rattle.std.proofs.Common.{◌≡◌, ℕ, zero, suc, ◌+◌, ◌-◌, ◌*◌, ◌<◌, ◌≤◌, Bool, true, false, cond, List, [], ◌∷◌, ◌++◌, length, take, drop, Some, None, Option, sym, refl, ap, ◌∙◌, subst, inl, ⊎_elim, mul_comm, mul-le-mul_left, mul-zero, mul-suc, arith}
 use Rattle.std.specs.List.{AllByRecursion}
-use Rattle.std.proofs.lemmas.List.{take-take, drop-drop, take_all}
+use Rattle.std.proofs.lemmas.List.{drop-drop}
 use Rattle.std.proofs.lemmas.Bool.{cases_lt, cond-true, cond-false}
 use Rattle.std.proofs.ByRecursion.{All-push}
-use Rattle.std.proofs.lemmas.Slice.{between_is}
 use Rattle.scores.specs.Scores.{Meaning, Laws}
 use Rattle.grammars.specs.Grammars.{Texts, Sets, Lawful}
 use Rattle.pages.proofs.Shape.{line_parts}
@@ -17,7 +16,7 @@ use Rattle.search.proofs.Ranking.{ranked}
 use Rattle.search.proofs.Growth.{chains_best_first, small}
 use Rattle.bench.specs.declared.Bench.{Bench}
 use Rattle.bench.specs.declared.Reading.{Reading}
-use Rattle.bench.specs.Held.{in_use, on_bench, times, Holds, Taken, Seen}
+use Rattle.bench.specs.Held.{in_use, on_bench, times, Holds, Seen}
 use Rattle.bench.specs.Searched.{AgreesAt, admitted, due, one_further, first_passing}
 use Rattle.bench.proofs.Counts.{without_times, alike_times, distinct_alike}
 use Rattle.bench.proofs.Benches.{holds_self, many_on}

@@ -1,10 +1,10 @@
 -- The text, the penalties and the last raised cell of a chain, cell by cell. Assumes nothing.
-use Rattle.std.proofs.Common.{◌≡◌, ℕ, zero, suc, ◌+◌, ◌-◌, ◌<◌, ◌≤◌, ◌⊎◌, List, [], ◌∷◌, ◌++◌, map, length, get_or, take, drop, set, sym, refl, ap, ◌∙◌, subst, inl, inr, ⊎_elim, add-one, arith, length-append, length-drop, length-set, take-append-drop, length-take, get_or-take}
+use Rattle.std.proofs.Common.{◌≡◌, ℕ, zero, suc, ◌+◌, ◌<◌, ◌≤◌, List, [], ◌∷◌, ◌++◌, map, length, get_or, take, drop, set, sym, refl, ap, ◌∙◌, subst, add-one, arith, length-set, take-append-drop, length-take, get_or-take}
 use mathlib.Core.Option.{Option, none, some}
 use Rattle.std.proofs.lemmas.List.{take_more, take_more_set, take_all, take-append-le, drop-set-lt, drop-drop}
 use Rattle.pages.specs.Shape.{Cells}
 use Rattle.scores.specs.Scores.{Meaning, stepped}
-use Rattle.search.specs.Chains.{Chain, ChainOf, no_alt, taken, text, penalties, total, raised_from, last_raised, or_zero}
+use Rattle.search.specs.Chains.{Chain, ChainOf, no_alt, taken, text, penalties, raised_from, last_raised, or_zero}
 use Rattle.search.proofs.Raised.{Last, last_of}
 
 taken_long : (line : Cells) (c : Chain) → length c ≡ length line → length (taken line c) ≡ length line

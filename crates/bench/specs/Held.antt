@@ -5,7 +5,6 @@ use Rattle.std.specs.List.{AllByRecursion}
 use Rattle.pages.specs.Shape.{Cells}
 use Rattle.scores.specs.Scores.{Meaning}
 use Rattle.grammars.specs.Grammars.{Texts}
-use Rattle.search.specs.Members.{Mem}
 use Rattle.search.specs.BestFirst.{Unbeaten}
 use Rattle.search.specs.Chains.{Chain, ChainOf, text, total, before, children}
 use Rattle.bench.specs.declared.places.Place.{Place}

@@ -19,13 +19,13 @@ use Rattle.search.specs.Chains.{Chain, ranking}
 use Rattle.bench.specs.declared.Reading.{Reading}
 use Rattle.bench.specs.declared.Sought.{Sought}
 use Rattle.bench.specs.Held.{reading_of}
-use Rattle.bench.specs.Searched.{admitted, due, first_passing, came_to, sought_of}
+use Rattle.bench.specs.Searched.{admitted, due, first_passing, came_to}
 use Rattle.reader.specs.declared.calls.Reader.{Reader}
 use Rattle.reader.specs.declared.refusals.Refusal.{Refusal}
 use Rattle.reader.specs.declared.refusals.Refusal.TheVariants as refusal
 use Rattle.reader.specs.Views.{View, view, OnLine, AgreesWith, Agrees}
 use Rattle.bench.proofs.Lines.{cell_at}
-use Rattle.reader.specs.Calls.{light, takes, taken_by, loading, FromPage, granting_to, Nexted, refuse_next, next_came, next_on}
+use Rattle.reader.specs.Calls.{light, takes, taken_by, loading, FromPage, granting_to, refuse_next, next_came, next_on}
 
 module _ {G S : Type 0} (s : Meaning) (g : Sets) (r : Reader G S) (line : Line) (e : r.line ≡ Some line) where
   pub on_line : Agrees s g r → OnLine s g r (line_of line)

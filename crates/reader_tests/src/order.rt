@@ -7,6 +7,7 @@ use crate::answers::*;
 use grammars::Grammar;
 use runs::run;
 use scores::{Shares, Sum};
+use std::test::Fail;
 
 // A grammar that admits every text.
 #[derive(Clone, Copy)]

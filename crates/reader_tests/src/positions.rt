@@ -5,6 +5,7 @@ use grammars::sheet::Sheet;
 use grammars::{Both, Then};
 use runs::run;
 use scores::Sum;
+use std::test::Fail;
 
 // 50 or (at 1) 51 degrees north and 004 or (at 2) 005 degrees west, with no minutes: 5000000N00400000W at 0, 51.. at 1,
 // ..005.. at 2, and both at 3.

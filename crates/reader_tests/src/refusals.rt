@@ -3,6 +3,7 @@ use crate::answers::*;
 use grammars::date::Date;
 use runs::run;
 use scores::{Shares, Sum};
+use std::test::Fail;
 
 // Ten cells of one symbol at 0, in one line.
 const TEN_CELLS: &[u8; 42] =

@@ -1,5 +1,5 @@
 -- What each call makes of a history, from what its contract says. Assumes nothing.
-use Rattle.std.proofs.Common.{◌≡◌, ℕ, zero, suc, ◌+◌, ◌-◌, ◌<◌, ◌≤◌, min, Bool, true, false, ◌⊎◌, ◌↔◌, List, [], ◌∷◌, ◌++◌, length, take, drop, Some, None, Ok, Err, Option, sym, refl, ap, ◌∙◌, subst, inl, inr, ⊎_elim, append_assoc, arith, length-drop, take-append-drop, length-take}
+use Rattle.std.proofs.Common.{◌≡◌, ℕ, zero, suc, ◌+◌, ◌-◌, ◌<◌, ◌≤◌, min, false, List, [], ◌∷◌, ◌++◌, length, take, drop, Some, Ok, Err, Option, sym, refl, ap, ◌∙◌, subst, ⊎_elim, append_assoc, arith, length-drop, take-append-drop, length-take}
 use Rattle.std.specs.List.{AllByRecursion}
 use Rattle.std.proofs.lemmas.List.{take_all, drop_all, drop-drop}
 use Rattle.std.proofs.lemmas.Bool.{cases_lt}
@@ -20,7 +20,7 @@ use Rattle.bench.proofs.Searches.{FirstPassing, due_chain}
 use Rattle.reader.specs.Views.{View, loaded as loaded-view}
 use Rattle.reader.specs.Calls.{loading, granting_to, Reports, cells_of, PlacesInUse}
 use Rattle.runs.specs.Rows.{answer_of}
-use Rattle.runs.specs.Runs.{loaded, granted, found, spent, exhausted, reported, refused, Moment, moment, line_in, granted_in, handed_in, looked_in, live_chains, cut, overwritten, Reported, NextRefused, CallMade, load_taken, load_refused, grant_taken, grant_refused, next_found, next_spent, next_exhausted, next_refused, report_made}
+use Rattle.runs.specs.Runs.{loaded, granted, found, spent, exhausted, reported, refused, moment, line_in, granted_in, looked_in, live_chains, cut, overwritten, NextRefused, CallMade, load_taken, load_refused, grant_taken, grant_refused, next_found, next_spent, next_exhausted, next_refused, report_made}
 use Rattle.runs.specs.Steps.{Tracks, Made}
 use Rattle.runs.proofs.Nexts.{ComesTo}
 use Rattle.bench.proofs.Texts.{text_long}

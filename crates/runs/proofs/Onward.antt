@@ -1,10 +1,9 @@
 -- How a run goes on from row to row. Assumes nothing.
-use Rattle.std.proofs.Common.{◌≡◌, ℕ, zero, suc, ◌+◌, ◌<◌, ◌≤◌, List, [], ◌∷◌, ◌++◌, length, get_or, take, drop, set, sym, refl, ap, ◌∙◌, subst, add-zero, arith, get_or-drop}
+use Rattle.std.proofs.Common.{◌≡◌, ℕ, ◌+◌, ◌<◌, ◌≤◌, List, [], ◌∷◌, ◌++◌, length, get_or, take, drop, set, sym, refl, ap, ◌∙◌, subst, add-zero, arith, get_or-drop}
 use Rattle.std.proofs.lemmas.List.{take_more, take_more_set, take_all, drop-set-lt, drop-drop}
 use Rattle.scores.specs.Scores.{Meaning}
 use Rattle.grammars.specs.Grammars.{Sets}
 use Rattle.reader.specs.declared.calls.Reader.{Reader}
-use Rattle.runs.specs.declared.rows.Call.{Call}
 use Rattle.runs.specs.declared.rows.Answer.{Answer}
 use Rattle.runs.specs.declared.rows.Row.{Row}
 use Rattle.reader.specs.Views.{view, unloaded, Agrees}

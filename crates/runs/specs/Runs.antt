@@ -1,5 +1,5 @@
 -- Runs: what came of any list of calls on a new reader, and the law of each. Assumes nothing.
-use Rattle.std.specs.Prelude.{◌≡◌, ℕ, ◌+◌, ◌<◌, ◌≤◌, Bool, true, false, ◌⊎◌, ◌↔◌, List, [], ◌∷◌, ◌++◌, length, take, drop, Some, None, Ok, Err, Option, Result}
+use Rattle.std.specs.Prelude.{◌≡◌, ℕ, ◌+◌, ◌<◌, ◌≤◌, true, ◌⊎◌, ◌↔◌, List, [], ◌∷◌, ◌++◌, length, take, drop, Some, None, Ok, Err, Option}
 use Rattle.pages.specs.Shape.{Cells}
 use Rattle.scores.specs.Scores.{Meaning}
 use Rattle.grammars.specs.Grammars.{Sets}

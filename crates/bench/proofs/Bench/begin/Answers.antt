@@ -1,4 +1,4 @@
-use Rattle.std.proofs.Common.{◌≡◌, [], ◌∷◌, ◌++◌, map, length, take, heap_items, sym, ap, ◌∙◌, subst, arith}
+use Rattle.std.proofs.Common.{◌≡◌, [], ◌∷◌, ◌++◌, map, length, take, sym, ap, ◌∙◌, subst, arith}
 use Rattle.pages.specs.Answers.{line_of}
 use Rattle.search.specs.Chains.{ChainOf, root}
 use Rattle.bench.specs.declared.Bench.{Bench}

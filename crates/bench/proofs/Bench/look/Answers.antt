@@ -1,4 +1,4 @@
-use Rattle.std.proofs.Common.{◌≡◌, ℕ, ◌-◌, List, [], ◌++◌, map, length, take, heap_items, sym, ap, ◌∙◌, arith}
+use Rattle.std.proofs.Common.{◌≡◌, ◌-◌, [], map, length, take, heap_items, sym, ap, ◌∙◌, arith}
 use Rattle.pages.specs.Answers.{line_of}
 use Rattle.search.specs.Chains.{text}
 use Rattle.bench.specs.Ranks.{chain_in}

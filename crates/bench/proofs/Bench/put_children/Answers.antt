@@ -1,7 +1,7 @@
 use Rattle.std.proofs.Common.{◌≡◌, ◌+◌, ◌<◌, ◌≤◌, true, false, [], ◌∷◌, ◌++◌, length, get_or, take, sym, ap, ◌∙◌, subst, append_assoc, append-nil, arith, length-append, get_or-take}
 use Rattle.std.proofs.lemmas.Bool.{ltb-true, ltb-false}
 use Rattle.pages.specs.Answers.{line_of}
-use Rattle.search.specs.Chains.{text, last_raised, or_zero, raised, children_below}
+use Rattle.search.specs.Chains.{text, last_raised, or_zero, children_below}
 use Rattle.search.proofs.Growth.{few_children, children_few}
 use Rattle.bench.specs.Ranks.{ranks_of, chain_in}
 use Rattle.bench.specs.Held.{on_bench, Holds}

@@ -1,4 +1,4 @@
-use Rattle.std.proofs.Common.{◌≡◌, ◌+◌, ltb, [], length, get_or, sym, ap, ◌∙◌, arith}
+use Rattle.std.proofs.Common.{◌≡◌, ◌+◌, ltb, [], length, get_or, sym, ◌∙◌, arith}
 use Rattle.pages.specs.Answers.{line_of}
 use Rattle.bench.proofs.Lines.{as_many, cell_at}
 use Rattle.bench.proofs.chains.has_more.Goals as goal

@@ -1,4 +1,4 @@
-use Rattle.std.proofs.Common.{◌≡◌, sym, refl, ap, ◌∙◌, subst}
+use Rattle.std.proofs.Common.{sym, refl, subst}
 use Rattle.runs.specs.declared.rows.Answer.TheVariants as answer
 use Rattle.reader.specs.Views.{view}
 use Rattle.runs.specs.Steps.{Made}

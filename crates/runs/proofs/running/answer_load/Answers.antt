@@ -1,4 +1,4 @@
-use Rattle.std.proofs.Common.{◌≡◌, sym, ap, ◌∙◌}
+use Rattle.std.proofs.Common.{sym, ap, ◌∙◌}
 use Rattle.reader.specs.Views.{view}
 use Rattle.reader.specs.Calls.{loading, loaded_into}
 use Rattle.runs.proofs.Nexts.{answered_ok, answered_err}

@@ -1,4 +1,4 @@
-use Rattle.std.proofs.Common.{◌≡◌, ◌-◌, ◌≤◌, ◌++◌, length, take, drop, Ok, Err, sym, refl, ap, ◌∙◌, subst}
+use Rattle.std.proofs.Common.{◌-◌, ◌≤◌, ◌++◌, length, take, drop, Ok, Err, sym, refl, ap, subst}
 use Rattle.reader.specs.Views.{view}
 use Rattle.runs.specs.Runs.{cut, NextRefused}
 use Rattle.runs.specs.Steps.{Made}

@@ -1,4 +1,4 @@
-use Rattle.std.proofs.Common.{◌≡◌, ◌<◌, ◌≤◌, length, sym, refl, ap, ◌∙◌, subst, arith, rules}
+use Rattle.std.proofs.Common.{sym, refl, subst, arith, rules}
 use Rattle.reader.specs.Views.{Agrees}
 use Rattle.runs.specs.Runs.{Runs}
 use Rattle.runs.proofs.Determined.{determined}

@@ -1,8 +1,8 @@
-use Rattle.std.proofs.Common.{◌≡◌, Some, Ok, sym, refl, ap, ◌∙◌, arith}
+use Rattle.std.proofs.Common.{◌≡◌, Ok, sym, refl, ap, ◌∙◌, arith}
 use Rattle.pages.specs.Answers.{line_of}
 use Rattle.reader.specs.Views.{view}
 use Rattle.reader.specs.Calls.{loading, answered, loaded_into}
-use Rattle.reader.proofs.Readers.{agrees_on, loading_is, taken_yes, came_of, found_some, from_page}
+use Rattle.reader.proofs.Readers.{agrees_on, loading_is, taken_yes, found_some, from_page}
 use Rattle.reader.proofs.calls.Reader.load.Goals as goal
 
 pub returns : goal.returns

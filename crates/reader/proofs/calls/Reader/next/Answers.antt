@@ -1,4 +1,4 @@
-use Rattle.std.proofs.Common.{◌≡◌, ℕ, ◌+◌, ◌-◌, ◌<◌, ◌≤◌, min, true, false, ltb, List, ◌++◌, length, take, drop, Some, None, Ok, Err, sym, refl, ap, ◌∙◌, subst, arith}
+use Rattle.std.proofs.Common.{◌≡◌, ◌+◌, ◌-◌, ◌<◌, ◌≤◌, ltb, ◌++◌, length, take, drop, Some, None, Ok, sym, refl, ap, ◌∙◌, arith}
 use Rattle.std.proofs.lemmas.Bool.{eqb-true, eq-eqb, lt-ltb, le-ltb, cond-true, cond-false, false≢true}
 use Rattle.pages.specs.Answers.{line_of}
 use Rattle.search.specs.Chains.{text, ranking}
@@ -8,8 +8,8 @@ use Rattle.bench.proofs.Lines.{as_many}
 use Rattle.bench.proofs.Texts.{text_long, front}
 use Rattle.bench.proofs.Searches.{empty_ends, full_left, passing_first, due_chain}
 use Rattle.reader.specs.declared.calls.Outcome.TheVariants.{Found, Spent, Exhausted}
-use Rattle.reader.specs.Views.{View, view, OnLine}
-use Rattle.reader.specs.Calls.{next_of, next_came}
+use Rattle.reader.specs.Views.{view}
+use Rattle.reader.specs.Calls.{next_came}
 use Rattle.reader.proofs.Readers.{on_line, agrees_on, line_seen, next_short, next_long, told}
 use Rattle.reader.proofs.calls.Reader.next.Goals as goal
 
