@@ -1,9 +1,9 @@
 // Reads a page file from standard input, and prints what it holds or why it is refused.
 #![tactic(auto)]
 
-use anyhow::anyhow;
 use reports::report_page;
 use std::io::Read;
+use std::process::ExitCode;
 
 // Prints the report of the page, and says whether it was accepted.
 fn check_page(rt: &HostRuntime) -> anyhow::Result<bool> {
@@ -14,9 +14,9 @@ fn check_page(rt: &HostRuntime) -> anyhow::Result<bool> {
     Ok(report.accepted)
 }
 
-fn main(rt: HostRuntime) -> anyhow::Result<()> {
+fn main(rt: HostRuntime) -> anyhow::Result<ExitCode> {
     match check_page(&rt)? {
-        true => Ok(()),
-        false => Err(anyhow!("the page is refused")),
+        true => Ok(ExitCode::SUCCESS),
+        false => Ok(ExitCode::FAILURE),
     }
 }

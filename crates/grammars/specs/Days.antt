@@ -27,7 +27,7 @@ length_of_most m y =
     28
     (longest m)
     (λ k. k ≤ longest m)
-    (λ e. let two-th : m ≡ 2 = eqb-true m 2 (and_parts (m == 2) (not (leap y)) e).0 in subst (λ k. 28 ≤ longest k) (sym two-th) (lit≤ tt))
+    (λ e. let two_th : m ≡ 2 = eqb-true m 2 (and_parts (m == 2) (not (leap y)) e).0 in subst (λ k. 28 ≤ longest k) (sym two_th) (lit≤ tt))
     (λ e. omega arith)
 
 -- the parts of an opening that is allowed

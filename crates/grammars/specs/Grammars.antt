@@ -48,9 +48,9 @@ both a b = record { admits = in_both a.admits b.admits; allows = in_both a.allow
 abbrev pub split_at : ℕ → Texts → Texts → Texts
 split_at n a b s = nat_le n (length s) && (a (take n s) && b (drop n s))
 
--- an opening of at most n symbols is in opens-a; of a longer one the first n are in a and the rest in opens-b
+-- an opening of at most n symbols is in opens_a; of a longer one the first n are in a and the rest in opens_b
 abbrev pub opens_at : ℕ → Texts → Texts → Texts → Texts
-opens_at n a opens-a opens-b s = cond (nat_le (length s) n) (opens-a s) (a (take n s) && opens-b (drop n s))
+opens_at n a opens_a opens_b s = cond (nat_le (length s) n) (opens_a s) (a (take n s) && opens_b (drop n s))
 
 -- Then, with the cut n
 abbrev pub then_by : ℕ → Sets → Sets → Sets

@@ -65,12 +65,12 @@ impl<P: Grammar, Q: Grammar> Grammar for Both<P, Q> {
     ghost laws = { λ t.
         let p = P.Grammar.meaning t.one in
         let q = Q.Grammar.meaning t.other in
-        let below-p = P.Grammar.laws t.one in
-        let below-q = Q.Grammar.laws t.other in
+        let below_p = P.Grammar.laws t.one in
+        let below_q = Q.Grammar.laws t.other in
         record {
-          empty = and_from (p.allows _) (q.allows _) below-p.empty below-q.empty;
-          shorter = λ s n h. let h' = and_parts (p.allows s) (q.allows s) h in and_from (p.allows (take n s)) (q.allows (take n s)) (below-p.shorter s n h'.0) (below-q.shorter s n h'.1);
-          begun = λ s n h. let h' = and_parts (p.admits s) (q.admits s) h in and_from (p.allows (take n s)) (q.allows (take n s)) (below-p.begun s n h'.0) (below-q.begun s n h'.1);
+          empty = and_from (p.allows _) (q.allows _) below_p.empty below_q.empty;
+          shorter = λ s n h. let h' = and_parts (p.allows s) (q.allows s) h in and_from (p.allows (take n s)) (q.allows (take n s)) (below_p.shorter s n h'.0) (below_q.shorter s n h'.1);
+          begun = λ s n h. let h' = and_parts (p.admits s) (q.admits s) h in and_from (p.allows (take n s)) (q.allows (take n s)) (below_p.begun s n h'.0) (below_q.begun s n h'.1);
         } };
 
     fn is_admitted(&self, text: &[u8]) -> bool {
@@ -96,12 +96,12 @@ impl<P: Grammar, Q: Grammar> Grammar for Then<P, Q> {
     ghost laws = { λ t.
         let p = P.Grammar.meaning t.head in
         let q = Q.Grammar.meaning t.tail in
-        let below-p = P.Grammar.laws t.head in
-        let below-q = Q.Grammar.laws t.tail in
+        let below_p = P.Grammar.laws t.head in
+        let below_q = Q.Grammar.laws t.tail in
         record {
-          empty = then_empty t.cut p.admits p.allows q.admits q.allows below-p.empty;
-          shorter = then_shorter t.cut p.admits p.allows q.admits q.allows below-p.begun below-p.shorter below-q.shorter;
-          begun = then_begun t.cut p.admits p.allows q.admits q.allows below-p.begun below-q.begun;
+          empty = then_empty t.cut p.admits p.allows q.admits q.allows below_p.empty;
+          shorter = then_shorter t.cut p.admits p.allows q.admits q.allows below_p.begun below_p.shorter below_q.shorter;
+          begun = then_begun t.cut p.admits p.allows q.admits q.allows below_p.begun below_q.begun;
         } };
 
     fn is_admitted(&self, text: &[u8]) -> bool {

@@ -39,7 +39,9 @@ fn check_refused(
     line: Option<usize>,
     cell: Option<usize>,
 ) -> Result<(), Fail> {
-    match line_of_page(page, 0) {
+    let judged = line_of_page(page, 0);
+    assert!(rt; judged.is_err(), "{case}: the page was accepted");
+    match judged {
         Ok(_) => Err(Fail::new("the page was accepted")),
         Err(fault) => {
             assert_eq!(rt; fault.number(), number, "{case}: number");

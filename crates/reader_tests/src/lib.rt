@@ -4,9 +4,9 @@
 #[cfg(test)]
 mod answers;
 #[cfg(test)]
-mod order;
+mod on_the_sheet;
 #[cfg(test)]
-mod positions;
+mod order;
 #[cfg(test)]
 mod refusals;
 #[cfg(test)]

@@ -1,7 +1,7 @@
 // A fault in words, with the line and the cell that it was met in.
 ghost use Rattle.std.specs.Prelude.{◌≡◌, ◌<◌, IfOk, string_bytes};
 ghost use Rattle.pages.specs.Laws.{penalty_of};
-ghost use Rattle.reports.specs.Words.{hex_digit, hex as hex-of, byte_at, count_words, alternative_words, cell_words, line_words, page_words};
+ghost use Rattle.reports.specs.Words.{hex_digit, hex as hex_of, byte_at, count_words, alternative_words, cell_words, line_words, page_words};
 
 use pages::{
     AlternativeFault, CellFault, CountFault, LineFault, MOST_ALTERNATIVES, MOST_CELLS, MOST_LINES,
@@ -22,7 +22,7 @@ fn hex_digit_of(digit: u8) -> char
 
 // The two hexadecimal digits of a byte.
 fn hex(heap: Global, byte: u8) -> Result<String, AllocError>
-    ensures { IfOk result (λ s. string_bytes s ≡ hex-of byte) }
+    ensures { IfOk result (λ s. string_bytes s ≡ hex_of byte) }
 {
     let high = hex_digit_of(byte / 16);
     let low = hex_digit_of(byte % 16);

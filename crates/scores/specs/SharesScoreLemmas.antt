@@ -1,3 +1,4 @@
+-- Two laws of `Shares`: the same step keeps the order of two totals, and a smaller penalty never makes a total worse.
 use Rattle.std.specs.Prelude.{◌≡◌, ℕ, ◌-◌, ◌*◌, ◌≤◌, min, true}
 use Rattle.std.proofs.Common.{mul-le-mul_left, mul-le-mul_right, arith}
 use Rattle.std.proofs.lemmas.Bool.{leb-true, le-leb}

@@ -7,9 +7,9 @@ ghost use Rattle.std.proofs.Common.{rules};
 ghost use Rattle.scores.specs.SharesScoreLemmas.{steady, cheaper};
 
 pub trait Score {
-    // The most cells and the highest penalty that the score takes. No clause can name an associated constant of a
-    // type parameter: the contracts of `cells_taken` and `penalty_taken` tie what these answer to the meaning, each
-    // score writes them as its constants, and generic code reads the functions.
+    // The most cells and the highest penalty that the score takes. The contracts of `cells_taken` and `penalty_taken`
+    // tie what these answer to the meaning, each score writes them as its constants, and generic code reads the
+    // functions.
     const MOST_CELLS: usize;
 
     const HIGHEST_PENALTY: u16;
