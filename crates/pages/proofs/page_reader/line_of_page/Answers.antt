@@ -41,8 +41,8 @@ pub loop-line-preserved : goal.loop-line-preserved
 loop-line-preserved c =
     keep_more c.loop-line.invariant c.in-Some.line c.next_line.new.self c.if-number-wanted.found (passing c)
     (subst (λ o. Ahead (Ok o) c.loop-line.lines c.next_line.new.self) c.in-Some.is c.in_ok-line.ensures.ahead)
-    (λ e. elim c.if-number-wanted.branch [ then-number-wanted w ↦ w.found-is | else-number-wanted w ↦ absurd (w.if-number-wanted.false e) ])
-    (λ ne. elim c.if-number-wanted.branch [ then-number-wanted w ↦ absurd (ne w.if-number-wanted.true) | else-number-wanted w ↦ w.found-is ])
+    (λ e. elim c.if-number-wanted.branch [ then-number-wanted w ↦ w.found-is | else-number-wanted w ↦ absurd (omega (arith, w.if-number-wanted.false, e)) ])
+    (λ ne. elim c.if-number-wanted.branch [ then-number-wanted w ↦ absurd (ne (omega (arith, w.if-number-wanted.true))) | else-number-wanted w ↦ w.found-is ])
 
 pub loop-line-smaller : goal.loop-line-smaller
 loop-line-smaller c = let p = passing c in omega (arith, p.due, p.one, p.lines)
