@@ -7,7 +7,7 @@ ghost use Rattle.std.specs.BinaryHeap.{heap_capacity, heap_items, heap_len};
 ghost use Rattle.std.specs.List.Sorted.{IsPermutation};
 ghost use Rattle.grammars.specs.Grammars.{Sets, Lawful};
 ghost use Rattle.pages.specs.Answers.{line_of};
-ghost use Rattle.search.specs.Chains.{ChainOf, text as text_of, children, root};
+ghost use Rattle.search.specs.Chains.{ChainOf, text as text_of, children};
 ghost use Rattle.bench.specs.Ranks.{chain_in};
 ghost use Rattle.bench.specs.Order.{Ready, First};
 ghost use Rattle.bench.specs.Held.{in_use, Roomy, on_bench, Holds, Seen};

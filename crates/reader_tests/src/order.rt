@@ -1,6 +1,5 @@
 // The order in which readings come: better totals first, and equal totals by the first cell where they differ.
 ghost use Rattle.std.specs.Prelude.{true};
-ghost use Rattle.grammars.specs.Grammars.{Sets};
 ghost use Rattle.std.proofs.Common.{rules};
 
 use crate::answers::*;
