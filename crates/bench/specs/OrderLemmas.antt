@@ -3,17 +3,12 @@ use Rattle.std.specs.Prelude.{◌≡◌, ℕ, Bool, true, false, cond, ◌⊎◌
 use Rattle.std.proofs.Common.{sym, ap, ⊎_elim, true≢false}
 use Rattle.std.specs.declared.cmp.Ordering.TheVariants.{Less, Equal, Greater}
 use Rattle.std.specs.Ordering.{ordering_reverse, is_eq, is_lt, nat_cmp, on, flip_args}
-use Rattle.std.specs.Cmp.{IsTotalOrder, then_total, back_total, on_total, nat_cmp_total}
+use Rattle.std.specs.Cmp.{IsTotalOrder, both_ways, then_total, back_total, on_total, nat_cmp_total}
 use Rattle.std.specs.Cmp.Lexicographic.{slice_cmp, lists_total}
 use Rattle.scores.specs.Scores.{Meaning, Laws}
 use Rattle.bench.specs.declared.places.Place.{Place}
 use Rattle.bench.specs.Ranks.{ranks_of}
 use Rattle.bench.specs.Order.{by_total, standing}
-
-same_test : (s t : Bool) → (s ≡ true → t ≡ true) → (t ≡ true → s ≡ true) → s ≡ t
-same_test true t f h = sym (f refl)
-same_test false true f h = h refl
-same_test false false f h = refl
 
 pub turned : (s t : Bool) → (s ≡ true) ⊎ (t ≡ true) → cond s (cond t Equal Greater) Less ≡ ordering_reverse (cond t (cond s Equal Greater) Less)
 turned true true h = refl
@@ -50,8 +45,8 @@ module _ {s : Meaning} (laws : Laws s) where
   pub totals_alike : (x y z : ℕ) → by_total s.no_worse x y ≡ Equal → by_total s.no_worse x z ≡ by_total s.no_worse y z
   totals_alike x y z p =
       let both = equal_is (s.no_worse x y) (s.no_worse y x) p in
-      let e : s.no_worse x z ≡ s.no_worse y z = same_test (s.no_worse x z) (s.no_worse y z) (laws.transitive y x z both.1) (laws.transitive x y z both.0) in
-      let f : s.no_worse z x ≡ s.no_worse z y = same_test (s.no_worse z x) (s.no_worse z y) (λ h. laws.transitive z x y h both.0) (λ h. laws.transitive z y x h both.1) in
+      let e : s.no_worse x z ≡ s.no_worse y z = both_ways (s.no_worse x z) (s.no_worse y z) (laws.transitive y x z both.1) (laws.transitive x y z both.0) in
+      let f : s.no_worse z x ≡ s.no_worse z y = both_ways (s.no_worse z x) (s.no_worse z y) (λ h. laws.transitive z x y h both.0) (λ h. laws.transitive z y x h both.1) in
       λ i. cond (e i) (cond (f i) Equal Greater) Less
 
   totals : IsTotalOrder (by_total s.no_worse)

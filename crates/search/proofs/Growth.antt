@@ -187,7 +187,7 @@ module _ (allows : Texts) (line : Cells) (c : Chain) where
           (λ h. h) (cases_Bool (allows (take n (text line c))))
 
       not_here : i ≤ n → may_raise allows line c n ≡ false
-      not_here k = and_right (leb (or_zero (last_raised c)) n) _ (and_left (allows (take n (text line c))) (ltb (get_or c n 0 + 1) (length (get_or line n []))) (not_open k))
+      not_here k = and_right _ _ (and_left (allows (take n (text line c))) (ltb (get_or c n 0 + 1) (length (get_or line n []))) (not_open k))
 
 pub few_children : ChildrenAreFew
 few_children g laws line c = record {
@@ -204,7 +204,8 @@ module _ (allows : Texts) (line : Cells) (p : Chain) (chain : ChainOf line p) wh
       let inside : i < length p = omega arith in
       let at_i : get_or d i 0 ≡ get_or p i 0 + 1 = ap (λ z. get_or z i 0) h.is ∙ raised_here allows line p i inside in
       let long' : length d ≡ length p = ap length h.is ∙ length-set p i (get_or p i 0 + 1) in
-      let place : or_zero (last_raised p) ≤ i = leb-true _ i (and_parts (leb (or_zero (last_raised p)) i) _ h.may).0 in
+      let told = leb-true _ i (and_parts _ _ h.may).0 in
+      let place : or_zero (last_raised p) ≤ i = omega arith in
       record { inside = omega arith; up = omega arith; flat = λ j l. (let other : j ≡ i → ⊥ = omega arith in ap (λ z. get_or z j 0) h.is ∙ get_or-set_other p i j (get_or p i 0 + 1) 0 other) ∙ flat (last_raised p) refl j (let m : i < j = l in omega arith) }
     where
       flat : (o : Option ℕ) → last_raised p ≡ o → (j : ℕ) → or_zero o < j → get_or p j 0 ≡ 0
@@ -227,11 +228,11 @@ module _ (allows : Texts) (line : Cells) (p : Chain) (chain : ChainOf line p) wh
   child_live d i h =
       live_opening allows line d i (is_last d i (child_last d i h))
       ∙ ap allows (sym (lowered_text line d p i (child_lowered d i h)))
-      ∙ (and_parts (allows (take i (text line p))) _ (and_parts (leb (or_zero (last_raised p)) i) _ h.may).1).0
+      ∙ (and_parts (allows (take i (text line p))) _ (and_parts _ _ h.may).1).0
 
   child_chain : (d : Chain) (i : ℕ) → Child allows line p d (length line) i → ChainOf line d
   child_chain d i h = subst (ChainOf line) (sym h.is)
-      (chain_set line p i (get_or p i 0 + 1) chain (ltb-true _ _ (and_parts (allows (take i (text line p))) _ (and_parts (leb (or_zero (last_raised p)) i) _ h.may).1).1))
+      (chain_set line p i (get_or p i 0 + 1) chain (ltb-true _ _ (and_parts (allows (take i (text line p))) _ (and_parts _ _ h.may).1).1))
 
   lowered_child : (d : Chain) (i : ℕ) → ChainOf line d → live allows line d ≡ true → Lowered d p i → Child allows line p d (length line) i
   lowered_child d i dchain alive h =
@@ -244,7 +245,7 @@ module _ (allows : Texts) (line : Cells) (p : Chain) (chain : ChainOf line p) wh
       let more : get_or p i 0 + 1 ≡ get_or d i 0 = omega arith in
       record {
         below = omega arith;
-        may = and_from (leb (or_zero (last_raised p)) i) _ (le-leb _ i (lowered_place d p i h))
+        may = and_from _ _ (le-leb _ i (lowered_place d p i h))
             (and_from (allows (take i (text line p))) _ (ap allows (lowered_text line d p i h) ∙ sym (live_opening allows line d i h.place) ∙ alive)
             (lt-ltb _ _ (omega arith)));
         is = sym (ap (set p i) more ∙ ap (λ z. set z i (get_or d i 0)) h.is ∙ set-set d i (get_or d i 0 - 1) (get_or d i 0) ∙ set-get_or d i 0);

@@ -35,7 +35,7 @@ look-requires g c =
     record {
       holds = c.loop-k.invariant.0.holds;
       room = room_left g.S.Score.meaning g.met.S.Score.laws (g.G.Grammar.meaning c.args.grammar.now) (g.met.G.Grammar.laws c.args.grammar.now) (line_of line) line.sound
-          c.loop-k.k c.args.granted c.loop-k.self c.loop-k.invariant.0 c.loop-k-test.true;
+          c.loop-k.k c.args.granted c.loop-k.self c.loop-k.invariant.0 (omega (arith, c.loop-k-test.true, c.requires.agrees.within));
     }
 
 pub returns-in_default : goal.returns-in_default
@@ -73,7 +73,7 @@ returns-then-is_admitted g c =
     let lawful = g.met.G.Grammar.laws c.args.grammar.now in
     let next = look_next s laws sets lawful l line.sound k granted c.loop-k.self c.look.new.self c.in-Some.reading c.loop-k.invariant.0 seen in
     let le : looked ≤ k = c.loop-k.auto.k in
-    let lt : k < granted = c.loop-k-test.true in
+    let lt : k < granted = omega (arith, c.loop-k-test.true, c.requires.agrees.within) in
     let chain : ChainOf l seen.chain = (((ranked s laws sets l).exactly_live seen.chain).0 (mem_drop seen.chain k rk ((c.loop-k.invariant.0.frontier.holds seen.chain).0 seen.chosen.first.0).0)).0 in
     let cells : length c.cells.result.now - 0 ≡ length l = omega (arith, as_many line c.cells.result.now c.cells.ensures.items) in
     let short : k - looked ≤ granted - looked = omega arith in
@@ -104,7 +104,7 @@ loop-k-preserved g c =
     let next = look_next s laws sets lawful l line.sound k granted c.loop-k.self c.look.new.self c.in-Some.reading c.loop-k.invariant.0 seen in
     let chain : ChainOf l seen.chain = (((ranked s laws sets l).exactly_live seen.chain).0 (mem_drop seen.chain k rk ((c.loop-k.invariant.0.frontier.holds seen.chain).0 seen.chosen.first.0).0)).0 in
     let cells : length c.cells.result.now - 0 ≡ length l = omega (arith, as_many line c.cells.result.now c.cells.ensures.items) in (
-      look_agrees s laws sets lawful l line.sound k granted c.loop-k.self c.look.new.self c.in-Some.reading c.loop-k.invariant.0 seen c.loop-k-test.true,
+      look_agrees s laws sets lawful l line.sound k granted c.loop-k.self c.look.new.self c.in-Some.reading c.loop-k.invariant.0 seen (omega (arith, c.loop-k-test.true, c.requires.agrees.within)),
       passed_more (λ d. admitted sets l d ≡ false) rk looked k c.loop-k.auto.k seen.chain next.1 c.loop-k.invariant.1
           (sym (c.if-is_admitted.ensures ∙ asked_of s sets line seen.chain c.in-Some.reading (length c.cells.result.now - 0) cells chain seen.reads)),
     )
