@@ -1,55 +1,39 @@
 // Pages at the bounds of the format are accepted, and give the lines that they hold.
-use crate::pages_made::{even_page, line_in};
-use pages::{Alternative, line_of_page};
+use crate::pages_made::{EvenPage, line_in};
+use pages::line_of_page;
 use std::alloc::Global;
 use std::process::Abort;
 use std::test::Fail;
 
-#[derive(Clone, Copy)]
-struct Size {
-    lines: u8,
-    cells: u8,
-    alternatives: u8,
-}
-
-fn size_of(lines: u8, cells: u8, alternatives: u8) -> Size {
-    Size {
-        lines,
-        cells,
-        alternatives,
-    }
-}
-
 // Each line of the page, and none behind the last.
-fn check_size(rt: &impl Abort, heap: Global, size: Size) -> Result<(), Fail> {
-    let page = even_page(heap, size.lines, size.cells, size.alternatives)?;
-    for number in 0..usize::from(size.lines) {
-        let line = line_in(page.as_slice(), number)?;
-        assert_eq!(rt; line.cells().len(), usize::from(size.cells));
+fn check_even(rt: &impl Abort, heap: Global, page: EvenPage) -> Result<(), Fail> {
+    let bytes = page.bytes(heap)?;
+    // By the number, which a line of the page is asked for by.
+    for number in 0..usize::from(page.lines) {
+        let line = line_in(bytes.as_slice(), number)?;
+        assert_eq!(rt; line.cells().len(), usize::from(page.cells));
         for cell in line.cells() {
-            assert_eq!(rt; cell.alternatives().len(), usize::from(size.alternatives));
+            assert_eq!(rt; cell.alternatives().len(), usize::from(page.alternatives));
         }
     }
-    match line_of_page(page.as_slice(), usize::from(size.lines)) {
-        Ok(found) => {
-            assert!(rt; found.is_none(), "there is a line behind the last");
-            Ok(())
-        },
-        Err(_) => Err(Fail::new("the page was refused")),
-    }
+    let found = line_of_page(bytes.as_slice(), usize::from(page.lines)).map_err(|_| Fail::new(
+        "the page was refused",
+    ))?;
+    assert!(rt; found.is_none(), "there is a line behind the last");
+    Ok(())
 }
 
 #[test]
 fn counts(rt: HostRuntime) -> Result<(), Fail> {
-    let sizes = [
-        size_of(1, 1, 1),
-        size_of(40, 1, 1),
-        size_of(1, 24, 1),
-        size_of(1, 1, 8),
-        size_of(2, 23, 7),
+    let pages = [
+        EvenPage::of(1, 1, 1),
+        EvenPage::of(40, 1, 1),
+        EvenPage::of(1, 24, 1),
+        EvenPage::of(1, 1, 8),
+        EvenPage::of(2, 23, 7),
     ];
-    for size in sizes {
-        check_size(&rt, rt.alloc(), size)?;
+    for page in pages {
+        check_even(&rt, rt.alloc(), page)?;
     }
     Ok(())
 }
@@ -62,18 +46,13 @@ fn check_alternative(
     penalty: u16,
 ) -> Result<(), Fail> {
     let line = line_in(page, 0)?;
-    let Some(cell) = line.cells().first() else {
-        return Err(Fail::new("there is no cell"));
-    };
-    let Some(alternative) = cell.alternatives().get(rank) else {
-        return Err(Fail::new("there is no such alternative"));
-    };
-    let Alternative {
-        symbol: seen,
-        penalty: cost,
-    } = *alternative;
-    assert_eq!(rt; seen, symbol);
-    assert_eq!(rt; cost, penalty);
+    let cell = line.cells().first().ok_or("there is no cell")?;
+    let alternative = cell
+        .alternatives()
+        .get(rank)
+        .ok_or("there is no such alternative")?;
+    assert_eq!(rt; alternative.symbol, symbol);
+    assert_eq!(rt; alternative.penalty, penalty);
     Ok(())
 }
 

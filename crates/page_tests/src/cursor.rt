@@ -10,28 +10,18 @@ fn check_next(
     lines: &mut PageLines<'_>,
     cells: Option<usize>,
 ) -> Result<(), Fail> {
-    match lines.next_line() {
-        Ok(found) => match found {
-            Some(line) => {
-                assert_eq!(rt; Some(line.cells().len()), cells);
-                Ok(())
-            },
-            None => {
-                assert_eq!(rt; None, cells);
-                Ok(())
-            },
-        },
-        Err(_) => Err(Fail::new("the page was refused")),
-    }
+    let found = lines
+        .next_line()
+        .map_err(|_| Fail::new("the page was refused"))?;
+    assert_eq!(rt; found.map(|line| line.cells().len()), cells);
+    Ok(())
 }
 
 // Behind the last line there is none, however often it is asked.
 #[test]
 fn one_after_another(rt: HostRuntime) -> Result<(), Fail> {
     let page = [2, 1, 1, 65, 0, 0, 2, 1, 66, 0, 0, 1, 67, 0, 0];
-    let Ok(mut lines) = PageLines::open(&page) else {
-        return Err(Fail::new("the page was refused"));
-    };
+    let mut lines = PageLines::open(&page).map_err(|_| Fail::new("the page was refused"))?;
     check_next(&rt, &mut lines, Some(1))?;
     check_next(&rt, &mut lines, Some(2))?;
     check_next(&rt, &mut lines, None)?;
@@ -42,60 +32,66 @@ fn one_after_another(rt: HostRuntime) -> Result<(), Fail> {
 #[test]
 fn a_bad_line(rt: HostRuntime) -> Result<(), Fail> {
     let page = [2, 1, 1, 65, 0, 0, 1, 0];
-    let Ok(mut lines) = PageLines::open(&page) else {
-        return Err(Fail::new("the page was refused"));
-    };
+    let mut lines = PageLines::open(&page).map_err(|_| Fail::new("the page was refused"))?;
     check_next(&rt, &mut lines, Some(1))?;
     for _ in 0..2 {
-        match lines.next_line() {
-            Ok(_) => return Err(Fail::new("the line was read")),
-            Err(fault) => {
-                assert_eq!(rt; fault.number(), 2);
-                assert_eq!(rt; fault.place(), 7);
-                assert_eq!(rt; fault.line(), Some(1));
-                assert_eq!(rt; fault.cell(), Some(0));
-            }
-        }
+        let Err(fault) = lines.next_line() else {
+            return Err(Fail::new("the line was read"));
+        };
+        assert_eq!(rt; fault.number(), 2);
+        assert_eq!(rt; fault.place(), 7);
+        assert_eq!(rt; fault.line(), Some(1));
+        assert_eq!(rt; fault.cell(), Some(0));
     }
+    Ok(())
+}
+
+// The lines of a page, taken as an iterator, end behind the last one, and also behind a fault.
+#[test]
+fn lines_in_turn(rt: HostRuntime) -> Result<(), Fail> {
+    let page = [2, 1, 1, 65, 0, 0, 2, 1, 66, 0, 0, 1, 67, 0, 0];
+    let lines = PageLines::open(&page).map_err(|_| Fail::new("the page was refused"))?;
+    let mut lines = lines.into_iter();
+    for cells in [1, 2] {
+        let line = lines.next().ok_or("there is no line")?;
+        assert_eq!(rt; line.ok().map(|l| l.cells().len()), Some(cells));
+    }
+    assert!(rt; lines.next().is_none());
+    let page = [2, 1, 1, 65, 0, 0, 1, 0];
+    let lines = PageLines::open(&page).map_err(|_| Fail::new("the page was refused"))?;
+    let mut lines = lines.into_iter();
+    assert!(rt; lines.next().is_some_and(|line| line.is_ok()));
+    assert!(rt; lines.next().is_some_and(|line| line.is_err()));
+    assert!(rt; lines.next().is_none());
+    assert!(rt; lines.next().is_none());
     Ok(())
 }
 
 // The line of the page stands at 1, and behind it, at 43, is nothing.
 #[test]
 fn a_line_where_it_stands(rt: HostRuntime) -> Result<(), Fail> {
-    match read_line_at(DATE_PAGE, 1) {
-        Ok(got) => {
-            let (line, next) = got;
-            assert_eq!(rt; line.cells().len(), 8);
-            assert_eq!(rt; next, 43);
-        }
-        Err(_) => return Err(Fail::new("the line was refused")),
-    }
-    match read_line_at(DATE_PAGE, 43) {
-        Ok(_) => Err(Fail::new("a line was read")),
-        Err(fault) => {
-            let returned = fault.returned();
-            assert_eq!(rt; returned.number, 1);
-            assert_eq!(rt; returned.place, 43);
-            assert_eq!(rt; fault.cell(), None);
-            Ok(())
-        }
-    }
+    let (line, next) = read_line_at(DATE_PAGE, 1).map_err(|_| Fail::new("the line was refused"))?;
+    assert_eq!(rt; line.cells().len(), 8);
+    assert_eq!(rt; next, 43);
+    let Err(fault) = read_line_at(DATE_PAGE, 43) else {
+        return Err(Fail::new("a line was read"));
+    };
+    let returned = fault.returned();
+    assert_eq!(rt; returned.number, 1);
+    assert_eq!(rt; returned.place, 43);
+    assert_eq!(rt; fault.cell(), None);
+    Ok(())
 }
 
 // The first alternative of the page stands at 3, the second at 6.
 #[test]
 fn an_alternative_where_it_stands(rt: HostRuntime) -> Result<(), Fail> {
-    let Ok(first) = read_alternative(DATE_PAGE, 3, &[]) else {
-        return Err(Fail::new("refused"));
-    };
+    let first = read_alternative(DATE_PAGE, 3, &[]).map_err(|_| Fail::new("refused"))?;
     assert_eq!(rt; first.symbol, b'3');
     assert_eq!(rt; first.penalty, 0);
-    match read_alternative(DATE_PAGE, 3, &[first]) {
-        Ok(_) => Err(Fail::new("a symbol came twice")),
-        Err(fault) => {
-            assert_eq!(rt; fault.returned().number, 4);
-            Ok(())
-        },
-    }
+    let Err(fault) = read_alternative(DATE_PAGE, 3, &[first]) else {
+        return Err(Fail::new("a symbol came twice"));
+    };
+    assert_eq!(rt; fault.returned().number, 4);
+    Ok(())
 }

@@ -3,31 +3,43 @@ use pages::{Line, line_of_page};
 use std::alloc::{AllocError, Global};
 use std::test::Fail;
 
+// The page that the tests of other crates have too, as no crate of tests stands on another.
 // One line of eight cells: 3 at 0 or 2 at 5; 0 at 0 or 8 at 2; then 0, 2, 2, 0 and 2 at 0; 3 at 0 or 4 at 1.
 pub(crate) const DATE_PAGE: &[u8; 43] =
     b"\x01\x08\x023\0\02\0\x05\x020\0\08\0\x02\x010\0\0\x012\0\0\x012\0\0\x010\0\0\x012\0\0\x023\0\04\0\x01";
 
 // A page of so many lines of so many cells, each with `alternatives` symbols from 33 on at the penalties 0, 1, 2 and so on.
-pub(crate) fn even_page(
-    heap: Global,
-    lines: u8,
-    cells: u8,
-    alternatives: u8,
-) -> Result<Vec<u8>, AllocError> {
-    let mut page = Vec::new(heap);
-    page.push(lines)?;
-    for _ in 0..lines {
-        page.push(cells)?;
-        for _ in 0..cells {
-            page.push(alternatives)?;
-            for rank in 0..alternatives {
-                page.push(rank.saturating_add(33))?;
-                page.push(0)?;
-                page.push(rank)?;
-            }
+#[derive(Clone, Copy)]
+pub(crate) struct EvenPage {
+    pub(crate) lines: u8,
+    pub(crate) cells: u8,
+    pub(crate) alternatives: u8,
+}
+
+impl EvenPage {
+    pub(crate) fn of(lines: u8, cells: u8, alternatives: u8) -> EvenPage {
+        EvenPage {
+            lines,
+            cells,
+            alternatives,
         }
     }
-    Ok(page)
+
+    pub(crate) fn bytes(&self, heap: Global) -> Result<Vec<u8>, AllocError> {
+        let mut page = Vec::new(heap);
+        page.push(self.lines)?;
+        for _ in 0..self.lines {
+            page.push(self.cells)?;
+            for _ in 0..self.cells {
+                page.push(self.alternatives)?;
+                // By the rank, which is the penalty and makes the symbol.
+                for rank in 0..self.alternatives {
+                    page.extend_from_slice(&[rank.saturating_add(33), 0, rank])?;
+                }
+            }
+        }
+        Ok(page)
+    }
 }
 
 // The page with another byte at a place.
@@ -37,13 +49,9 @@ pub(crate) fn altered(
     place: usize,
     byte: u8,
 ) -> Result<Vec<u8>, AllocError> {
-    let mut other = Vec::new(heap);
-    for (at, old) in page.iter().enumerate() {
-        if at == place {
-            other.push(byte)?;
-        } else {
-            other.push(*old)?;
-        }
+    let mut other = page.to_vec(heap)?;
+    if let Some(old) = other.get_mut(place) {
+        *old = byte;
     }
     Ok(other)
 }
@@ -57,11 +65,6 @@ pub(crate) fn longer(heap: Global, page: &[u8], byte: u8) -> Result<Vec<u8>, All
 
 // The line of a number, which the page has.
 pub(crate) fn line_in(page: &[u8], number: usize) -> Result<Line, Fail> {
-    match line_of_page(page, number) {
-        Ok(found) => match found {
-            Some(line) => Ok(line),
-            None => Err(Fail::new("the page has no such line")),
-        },
-        Err(_) => Err(Fail::new("the page was refused")),
-    }
+    let found = line_of_page(page, number).map_err(|_| Fail::new("the page was refused"))?;
+    found.ok_or_else(|| Fail::new("the page has no such line"))
 }

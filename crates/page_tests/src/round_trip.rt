@@ -8,10 +8,8 @@ use std::test::Fail;
 fn same_bytes(rt: HostRuntime) -> Result<(), Fail> {
     let line = line_in(DATE_PAGE, 0)?;
     let mut place = [0xEE; 45];
-    match write_line(&line, &mut place) {
-        Ok(size) => assert_eq!(rt; size, 42),
-        Err(_) => return Err(Fail::new("there was room")),
-    }
+    let size = write_line(&line, &mut place).map_err(|_| Fail::new("there was room"))?;
+    assert_eq!(rt; size, 42);
     let (_, bytes) = DATE_PAGE.split_at(1);
     let (written, rest) = place.split_at(42);
     assert!(rt; written == bytes);
@@ -26,13 +24,11 @@ fn place_too_short(rt: HostRuntime) -> Result<(), Fail> {
     let mut place = [0xEE; 42];
     assert!(rt; write_line(&line, &mut place).is_ok());
     let mut place = [0xEE; 41];
-    match write_line(&line, &mut place) {
-        Ok(_) => return Err(Fail::new("there was no room")),
-        Err(fault) => assert_eq!(rt; fault.number(), 10),
-    }
-    for byte in place {
-        assert_eq!(rt; byte, 0xEE);
-    }
+    let Err(fault) = write_line(&line, &mut place) else {
+        return Err(Fail::new("there was no room"));
+    };
+    assert_eq!(rt; fault.number(), 10);
+    assert_eq!(rt; place, [0xEE; 41]);
     let mut place = [];
     assert!(rt; write_line(&line, &mut place).is_err());
     Ok(())

@@ -1,19 +1,20 @@
 // What is printed of a page, word for word.
 use crate::pages_made::DATE_PAGE;
-use reports::report_page;
+use reports::{explain, report_page};
 use std::alloc::Global;
 use std::process::Abort;
 use std::test::Fail;
 
+// The page is refused with this number at this place, or accepted, and this is printed.
 fn check_report(
     rt: &impl Abort,
     heap: Global,
     page: &[u8],
-    accepted: bool,
+    refused: Option<(u8, usize)>,
     text: &str,
 ) -> Result<(), Fail> {
     let report = report_page(heap, page)?;
-    assert_eq!(rt; report.accepted, accepted);
+    assert_eq!(rt; report.fault.map(|f| (f.number(), f.place())), refused);
     assert!(rt; report.text.as_str() == text, "{}", text);
     Ok(())
 }
@@ -25,7 +26,7 @@ fn good(rt: HostRuntime) -> Result<(), Fail> {
         &rt,
         heap,
         DATE_PAGE,
-        true,
+        None,
         "page of 1 lines\nline 0: cells 8, alternatives 11\n",
     )?;
     let page = [2, 2, 1, 65, 0, 0, 2, 66, 0, 0, 67, 0, 0, 1, 1, 68, 0, 0];
@@ -33,7 +34,7 @@ fn good(rt: HostRuntime) -> Result<(), Fail> {
         &rt,
         heap,
         &page,
-        true,
+        None,
         "page of 2 lines\nline 0: cells 2, alternatives 3\nline 1: cells 1, alternatives 1\n",
     )
 }
@@ -46,7 +47,7 @@ fn lines_and_cells(rt: HostRuntime) -> Result<(), Fail> {
         &rt,
         heap,
         &page,
-        false,
+        Some((3, 13)),
         "refused 3 at 13\nline 2, cell 0: symbol 0x20 is below 33\n",
     )?;
     let page = [1, 2, 1, 65, 0, 0, 1, 0xAB];
@@ -54,7 +55,7 @@ fn lines_and_cells(rt: HostRuntime) -> Result<(), Fail> {
         &rt,
         heap,
         &page,
-        false,
+        Some((3, 7)),
         "refused 3 at 7\nline 0, cell 1: symbol 0xab is above 126\n",
     )?;
     let page = [1, 1, 2, 65, 0, 0, 65];
@@ -62,7 +63,7 @@ fn lines_and_cells(rt: HostRuntime) -> Result<(), Fail> {
         &rt,
         heap,
         &page,
-        false,
+        Some((4, 6)),
         "refused 4 at 6\nline 0, cell 0: symbol 0x41 comes twice\n",
     )?;
     let page = [1, 1, 2, 65, 1, 2, 66, 0, 255];
@@ -70,7 +71,7 @@ fn lines_and_cells(rt: HostRuntime) -> Result<(), Fail> {
         &rt,
         heap,
         &page,
-        false,
+        Some((5, 7)),
         "refused 5 at 7\nline 0, cell 0: penalty 255 is below the one before, 258\n",
     )
 }
@@ -82,42 +83,55 @@ fn counts_and_ends(rt: HostRuntime) -> Result<(), Fail> {
         &rt,
         heap,
         &[],
-        false,
+        Some((1, 0)),
         "refused 1 at 0\nthe page ends where the count of lines is due\n",
     )?;
     check_report(
         &rt,
         heap,
         &[41],
-        false,
+        Some((2, 0)),
         "refused 2 at 0\nthe count of lines is 41, not 1 to 40\n",
     )?;
     check_report(
         &rt,
         heap,
         &[1, 0],
-        false,
+        Some((2, 1)),
         "refused 2 at 1\nline 0: the count of cells is 0, not 1 to 24\n",
     )?;
     check_report(
         &rt,
         heap,
         &[1, 1, 9],
-        false,
+        Some((2, 2)),
         "refused 2 at 2\nline 0, cell 0: the count of alternatives is 9, not 1 to 8\n",
     )?;
     check_report(
         &rt,
         heap,
         &[1, 1, 1, 65, 0],
-        false,
+        Some((1, 5)),
         "refused 1 at 5\nline 0, cell 0: the page ends where a symbol or a penalty is due\n",
     )?;
     check_report(
         &rt,
         heap,
         &[1, 1, 1, 65, 0, 0, 1, 2, 3],
-        false,
+        Some((6, 6)),
         "refused 6 at 6\nbytes behind the last line: 3\n",
     )
+}
+
+// The words alone, of a fault that a report gives.
+#[test]
+fn a_fault_explained(rt: HostRuntime) -> Result<(), Fail> {
+    let heap = rt.alloc();
+    let page = [1, 0];
+    let fault = report_page(heap, &page)?
+        .fault
+        .ok_or("the page was accepted")?;
+    let words = explain(heap, &page, fault)?;
+    assert!(rt; words.as_str() == "line 0: the count of cells is 0, not 1 to 24");
+    Ok(())
 }

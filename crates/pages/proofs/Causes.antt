@@ -1,9 +1,12 @@
 -- What a refusal says of the byte at its place is so. Assumes nothing.
-use Rattle.std.proofs.Common.{◌≡◌, ℕ, zero, suc, ◌+◌, ◌-◌, ◌*◌, ◌<◌, ◌≤◌, Bool, true, false, cond, ◌||◌, eqb, ltb, leb, ◌⊎◌, List, [], ◌∷◌, ◌++◌, length, get_or, Ok, Err, Result, sym, refl, ap, ◌∙◌, subst, inl, inr, ⊎_elim, arith}
-use Rattle.std.proofs.lemmas.Bool.{ltb-true, eqb-true, or_cases, or_left, or_right}
+use Rattle.std.proofs.Common.{◌≡◌, ℕ, zero, suc, ◌+◌, ◌-◌, ◌*◌, ◌<◌, ◌≤◌, Bool, true, false, cond, eqb, ltb, ◌⊎◌, List, [], ◌∷◌, ◌++◌, length, get_or, Ok, Err, Result, sym, refl, ap, ◌∙◌, subst, inl, inr, ⊎_elim, arith}
+use Rattle.std.proofs.lemmas.Bool.{eqb-true, or_cases, or_left, or_right}
+use Rattle.std.proofs.lemmas.Bool.Decides.{nat_tests}
 use Rattle.pages.specs.declared.lines.Alternative.{Alternative}
 use Rattle.pages.specs.declared.faults.CountFault.{CountFault}
+use Rattle.pages.specs.declared.faults.CountFault.TheVariants as count
 use Rattle.pages.specs.declared.faults.AlternativeFault.{AlternativeFault}
+use Rattle.pages.specs.declared.faults.AlternativeFault.TheVariants as alternative
 use Rattle.pages.specs.declared.faults.CellFault.{CellFault}
 use Rattle.pages.specs.declared.faults.CellFault.TheVariants as cell
 use Rattle.pages.specs.declared.faults.LineFault.{LineFault}
@@ -17,7 +20,6 @@ use Rattle.pages.specs.Reading.{last_penalty, symbol_at, penalty_at, onward, rea
 use Rattle.pages.specs.Laws.{SaysTrue, penalty_of}
 use Rattle.pages.proofs.Round.{Reads, reads, last_push}
 use Rattle.pages.proofs.Local.{bad_before}
-use Rattle.pages.proofs.Steps.{split}
 
 -- nothing is said by 1 and by 6
 silent : (bytes : List ℕ) (r : Returned) → (r.number ≡ 1) ⊎ (r.number ≡ 6) → SaysTrue bytes r
@@ -36,11 +38,11 @@ record Behind (bytes : List ℕ) (at : ℕ) (before : Alternatives) : Type 0 whe
   symbols : (s : ℕ) → seen s before ≡ true → (k : ℕ) × (0 < k) × (3 * k ≤ at) × (get_or bytes (at - 3 * k) 0 ≡ s)
 
 behind_none : (bytes : List ℕ) (at : ℕ) → Behind bytes at []
-behind_none bytes at = record { last = inl refl; symbols = λ s e. (let z : ◌≡◌ {A = ℕ} 0 1 = ap (λ b. cond b 1 0) e in absurd (omega arith)) }
+behind_none bytes at = record { last = inl refl; symbols = λ s e. cc }
 
 seen_push : (s : ℕ) (before : Alternatives) (a : Alternative) → seen s (before ++ a ∷ []) ≡ true → (seen s before ≡ true) ⊎ (a.symbol ≡ s)
 seen_push s [] a e =
-    ⊎_elim (λ h. inr (eqb-true a.symbol s h)) (λ h. (let z : ◌≡◌ {A = ℕ} 0 1 = ap (λ b. cond b 1 0) h in absurd (omega arith))) (or_cases _ _ e)
+    ⊎_elim (λ h. inr (eqb-true a.symbol s h)) (λ h. cc) (or_cases _ _ e)
 seen_push s (b ∷ before) a e =
     ⊎_elim (λ h. inl (or_left _ _ h)) (λ h. ⊎_elim (λ g. inl (or_right (eqb b.symbol s) (seen s before) g)) inr (seen_push s before a h)) (or_cases _ _ e)
 
@@ -65,34 +67,27 @@ behind_more bytes at before a r h =
     }
 
 -- an alternative that is refused
+alternative_causes : (bytes : List ℕ) (at : ℕ) (before : Alternatives) (g : AlternativeFault) → read_alternative bytes at before ≡ Err g
+    → (alternative.Short (length bytes) ≡ g)
+    ⊎ (((alternative.Symbol at ≡ g) × ((symbol_at bytes at < 33) ⊎ (126 < symbol_at bytes at)))
+    ⊎ (((alternative.Twice at ≡ g) × (seen (symbol_at bytes at) before ≡ true)) ⊎ ((alternative.Order (at + 1) ≡ g) × (penalty_at bytes at < last_penalty before))))
+alternative_causes bytes at before g e = grind (arith, nat_tests)
+
 alternative_true : (bytes : List ℕ) (at : ℕ) (before : Alternatives) (g : AlternativeFault) → Behind bytes at before → read_alternative bytes at before ≡ Err g → SaysTrue bytes (alternative_returns g)
 alternative_true bytes at before g h e =
-    ⊎_elim (λ p. told g p.1 (silent bytes _ (inl refl)))
-    (λ p1.
-    ⊎_elim
+    ⊎_elim (λ is. told is (silent bytes _ (inl refl)))
+    (⊎_elim
+    (λ p. told p.0 (record { count = λ n. absurd (omega arith); symbol = λ n. p.1; twice = λ n. absurd (omega arith); order = λ n. absurd (omega arith) }))
+    (⊎_elim
     (λ p.
-    told g p.1
-    (record {
-      count = λ n. absurd (omega arith);
-      symbol = λ n. ⊎_elim (λ lo. inl (ltb-true (symbol_at bytes at) 33 lo)) (λ hi. inr (ltb-true 126 (symbol_at bytes at) hi)) (or_cases (ltb (symbol_at bytes at) 33) (ltb 126 (symbol_at bytes at)) p.0);
-      twice = λ n. absurd (omega arith);
-      order = λ n. absurd (omega arith);
-    }))
-    (λ p2.
-    ⊎_elim
+    told p.0
+    (record { count = λ n. absurd (omega arith); symbol = λ n. absurd (omega arith); twice = λ n. h.symbols (symbol_at bytes at) p.1; order = λ n. absurd (omega arith) }))
     (λ p.
-    told g p.1
-    (record { count = λ n. absurd (omega arith); symbol = λ n. absurd (omega arith); twice = λ n. h.symbols (symbol_at bytes at) p.0; order = λ n. absurd (omega arith) }))
-    (λ p3.
-    ⊎_elim (λ p. told g p.1 (silent bytes _ (inl refl)))
-    (λ p4.
-    ⊎_elim
-    (λ p.
-    let below : penalty_at bytes at < last_penalty before = ltb-true (penalty_at bytes at) (last_penalty before) p.0 in
+    let below = p.1 in
     let low : (at + 1) + 1 ≡ at + 2 = omega arith in
     let here : penalty_of bytes (at + 1) ≡ penalty_at bytes at = ap (λ i. get_or bytes (at + 1) 0 * 256 + get_or bytes i 0) low in
     let back : (at + 1) - 3 ≡ at - 2 = omega arith in
-    told g p.1
+    told p.0
     (record {
       count = λ n. absurd (omega arith);
       symbol = λ n. absurd (omega arith);
@@ -101,37 +96,32 @@ alternative_true bytes at before g h e =
           λ n.
           ⊎_elim (λ none. absurd (omega arith))
           (λ some. let fits = some.0 in let was = ap (penalty_of bytes) back ∙ some.1 in (omega arith, omega arith)) h.last;
-    }))
-    (λ p5. let wrong = p5.1 in let z : ◌≡◌ {A = ℕ} 0 1 = cc in absurd (omega arith))
-    (split (ltb (penalty_at bytes at) (last_penalty before)) _ _ p4.1))
-    (split (leb (length bytes) (at + 2)) _ _ p3.1))
-    (split (seen (symbol_at bytes at) before) _ _ p2.1))
-    (split (ltb (symbol_at bytes at) 33 || ltb 126 (symbol_at bytes at)) _ _ p1.1))
-    (split (leb (length bytes) at) _ _ e)
+    }))))
+    (alternative_causes bytes at before g e)
   where
-    told : (x : AlternativeFault) {y : AlternativeFault} → y ≡ x → SaysTrue bytes (alternative_returns y) → SaysTrue bytes (alternative_returns x)
-    told x is s = subst (λ v. SaysTrue bytes (alternative_returns v)) is s
+    told : {y : AlternativeFault} → y ≡ g → SaysTrue bytes (alternative_returns y) → SaysTrue bytes (alternative_returns g)
+    told is s = subst (λ v. SaysTrue bytes (alternative_returns v)) is s
 
 -- a count that is refused
+count_causes : (most : ℕ) (bytes : List ℕ) (at : ℕ) (g : CountFault) → read_count most bytes at ≡ Err g
+    → (count.Short (length bytes) ≡ g) ⊎ ((count.Count at ≡ g) × ((get_or bytes at 0 ≡ 0) ⊎ (most < get_or bytes at 0)))
+count_causes most bytes at g e = grind (arith, nat_tests)
+
 count_true : (most : ℕ) (bytes : List ℕ) (at : ℕ) (g : CountFault) → 8 ≤ most → read_count most bytes at ≡ Err g → SaysTrue bytes (count_returns g)
 count_true most bytes at g le e =
-    ⊎_elim (λ p. told g p.1 (silent bytes _ (inl refl)))
-    (λ p1.
-    ⊎_elim
+    ⊎_elim (λ is. told is (silent bytes _ (inl refl)))
     (λ p.
-    told g p.1
+    told p.0
     (record {
-      count = λ n. ⊎_elim (λ lo. inl (let l = ltb-true (get_or bytes at 0) 1 lo in omega arith)) (λ hi. inr (let m = ltb-true most (get_or bytes at 0) hi in omega arith)) (or_cases (ltb (get_or bytes at 0) 1) (ltb most (get_or bytes at 0)) p.0);
+      count = λ n. ⊎_elim inl (λ high. inr (omega arith)) p.1;
       symbol = λ n. absurd (omega arith);
       twice = λ n. absurd (omega arith);
       order = λ n. absurd (omega arith);
     }))
-    (λ p2. let wrong = p2.1 in let z : ◌≡◌ {A = ℕ} 0 1 = cc in absurd (omega arith))
-    (split (ltb (get_or bytes at 0) 1 || ltb most (get_or bytes at 0)) _ _ p1.1))
-    (split (leb (length bytes) at) _ _ e)
+    (count_causes most bytes at g e)
   where
-    told : (x : CountFault) {y : CountFault} → y ≡ x → SaysTrue bytes (count_returns y) → SaysTrue bytes (count_returns x)
-    told x is s = subst (λ v. SaysTrue bytes (count_returns v)) is s
+    told : {y : CountFault} → y ≡ g → SaysTrue bytes (count_returns y) → SaysTrue bytes (count_returns g)
+    told is s = subst (λ v. SaysTrue bytes (count_returns v)) is s
 
 -- a fault below, or one behind a value
 module _ {A B E F : Type 0} (up : E → F) (low : E → Returned) (high : F → Returned) (same : (e : E) → high (up e) ≡ low e) (bytes : List ℕ) where
@@ -144,7 +134,7 @@ module _ {A B E F : Type 0} (up : E → F) (low : E → Returned) (high : F → 
 
 alternatives_true : (bytes : List ℕ) (due at : ℕ) (before : Alternatives) (f : CellFault) → Behind bytes at before → read_alternatives bytes due at before ≡ Err f → SaysTrue bytes (cell_returns f)
 unfolding read_alternatives
-alternatives_true bytes zero at before f h e = let z : ◌≡◌ {A = ℕ} 0 1 = cc in absurd (omega arith)
+alternatives_true bytes zero at before f h e = cc
 alternatives_true bytes (suc due) at before f h e =
     either cell.Alternative alternative_returns cell_returns (λ g. refl) bytes (read_alternative bytes at before) _ f (λ g is. alternative_true bytes at before g h is)
     (λ a is more. alternatives_true bytes due (at + 3) (before ++ a ∷ []) f (behind_more bytes at before a (reads bytes at before a is) h) more) e
@@ -157,7 +147,7 @@ cell_true bytes at f e =
 
 cells_true : (bytes : List ℕ) (due at : ℕ) (before : Cells) (f : LineFault) → read_cells bytes due at before ≡ Err f → SaysTrue bytes (line_returns f)
 unfolding read_cells
-cells_true bytes zero at before f e = let z : ◌≡◌ {A = ℕ} 0 1 = cc in absurd (omega arith)
+cells_true bytes zero at before f e = cc
 cells_true bytes (suc due) at before f e =
     either (λ g. line.Cell (record { number = length before; fault = g })) cell_returns line_returns (λ g. refl) bytes (read_cell bytes at) _ f (λ g is. cell_true bytes at g is)
     (λ c is more. cells_true bytes due c.1 (before ++ c.0 ∷ []) f more) e
@@ -170,7 +160,7 @@ line_true bytes at f e =
 
 end_true : (t : Bool) (bytes : List ℕ) (at : ℕ) (f : PageFault) → cond {A = Result Lines PageFault} t (Err (page.Excess at)) (Ok []) ≡ Err f → SaysTrue bytes (page_returns f)
 end_true true bytes at f e = let is : page.Excess at ≡ f = cc in subst (λ v. SaysTrue bytes (page_returns v)) is (silent bytes _ (inr refl))
-end_true false bytes at f e = let z : ◌≡◌ {A = ℕ} 0 1 = cc in absurd (omega arith)
+end_true false bytes at f e = cc
 
 lines_true : (bytes : List ℕ) (due at number : ℕ) (f : PageFault) → read_lines bytes due at number ≡ Err f → SaysTrue bytes (page_returns f)
 unfolding read_lines

@@ -1,8 +1,9 @@
 -- A refusal names the first thing wrong: what stands before its place can be completed to a good page. Assumes nothing.
-use Rattle.std.proofs.Common.{◌≡◌, ℕ, zero, suc, ◌+◌, ◌-◌, ◌*◌, ◌/◌, ◌%◌, ◌<◌, ◌≤◌, Bool, true, false, cond, ◌||◌, eqb, ltb, leb, ◌⊎◌, List, [], ◌∷◌, ◌++◌, length, get_or, take, drop, Ok, Err, Result, sym, refl, ap, ◌∙◌, subst, inl, inr, ⊎_elim, arith, length-drop}
+use Rattle.std.proofs.Common.{◌≡◌, ℕ, zero, suc, ◌+◌, ◌-◌, ◌*◌, ◌/◌, ◌%◌, ◌<◌, ◌≤◌, Bool, true, false, cond, eqb, ltb, ◌⊎◌, List, [], ◌∷◌, ◌++◌, length, get_or, take, drop, Ok, Err, Result, sym, refl, ap, ◌∙◌, subst, inl, inr, ⊎_elim, arith, length-drop}
 use Rattle.std.specs.List.{flat_map, AllByRecursion}
 use Rattle.std.proofs.lemmas.List.{length-take, length-take-le, take-append-le, take_all, take_more, drop_more, length_push, get_or_push, get_or_append_left}
-use Rattle.std.proofs.lemmas.Bool.{leb-true, leb-false, ltb-false, eqb-true, ne_eqb, or_parts, or_from, or_cases, cond-true, cond-false, lt-ltb, le-ltb, lt-leb, cases_lt}
+use Rattle.std.proofs.lemmas.Bool.{eqb-true, ne_eqb, or_parts, or_from, or_cases, cond-true, cond-false, cases_lt}
+use Rattle.std.proofs.lemmas.Bool.Decides.{nat_tests}
 use Rattle.pages.specs.declared.lines.Alternative.{Alternative}
 use Rattle.pages.specs.declared.faults.CountFault.{CountFault}
 use Rattle.pages.specs.declared.faults.AlternativeFault.{AlternativeFault}
@@ -16,11 +17,11 @@ use Rattle.pages.specs.declared.faults.PageFault.TheVariants as page
 use Rattle.pages.specs.declared.faults.Returned.{Returned}
 use Rattle.pages.specs.Shape.{Alternatives, Cells, Lines, seen}
 use Rattle.pages.specs.Faults.{count_returns, alternative_returns, cell_returns, line_returns, page_returns}
-use Rattle.pages.specs.Reading.{last_penalty, symbol_at, penalty_at, onward, read_alternative, read_count, read_alternatives, read_cell, read_cells, read_line, read_lines, read_page, before_lines}
+use Rattle.pages.specs.Reading.{last_penalty, symbol_at, onward, read_alternative, read_count, read_alternatives, read_cell, read_cells, read_line, read_lines, read_page, before_lines}
 use Rattle.pages.specs.Writing.{alternative_bytes, cell_bytes, line_bytes, page_bytes}
 use Rattle.pages.specs.Laws.{Stands, Begins, alternative_judged, cell_judged, line_judged, page_judged, HalfPenaltyTooLow, FirstWrong}
 use Rattle.pages.proofs.Shape.{InRange, WellFormedCell, WellFormedLine, WellFormedPage, page_parts, page_from}
-use Rattle.pages.proofs.Steps.{counts, split}
+use Rattle.pages.proofs.Steps.{counts}
 use Rattle.pages.proofs.Causes.{page_true}
 use Rattle.pages.proofs.Round.{Octets, Fair, fair_cell, reads, alternative_stands, fair_one, got_cell, line_read, last_push, page_back}
 use Rattle.pages.proofs.Local.{shorter, still_read, alternative_local, count_local, cell_local, line_local, jC, jL, bad_before, page_refused}
@@ -31,12 +32,12 @@ without s [] = []
 without s (a ∷ more) = cond (eqb a.symbol s) more (a ∷ without s more)
 
 fewer : (s : ℕ) (l : Alternatives) → seen s l ≡ true → length (without s l) + 1 ≡ length l
-fewer s [] e = let z : ◌≡◌ {A = ℕ} 0 1 = cc in absurd (omega arith)
+fewer s [] e = cc
 fewer s (a ∷ more) e = go (fewer s more) (eqb a.symbol s) refl where
   go : (seen s more ≡ true → length (without s more) + 1 ≡ length more) → (t : Bool) → eqb a.symbol s ≡ t → length (cond (eqb a.symbol s) more (a ∷ without s more)) + 1 ≡ suc (length more)
   go again true is = omega (arith, ap length (cond-true (eqb a.symbol s) more (a ∷ without s more) is))
   go again false is =
-      let later : seen s more ≡ true = ⊎_elim (λ here. (let z : ◌≡◌ {A = ℕ} 0 1 = ap (λ b. cond b 1 0) (sym is ∙ here) in absurd (omega arith))) (λ h. h) (or_cases _ _ e) in
+      let later : seen s more ≡ true = ⊎_elim (λ (here : eqb a.symbol s ≡ true). cc) (λ h. h) (or_cases _ _ e) in
       omega (arith, ap length (cond-false (eqb a.symbol s) more (a ∷ without s more) is), again later)
 
 still : (s t : ℕ) (l : Alternatives) → (t ≡ s → ⊥) → seen t (without s l) ≡ false → seen t l ≡ false
@@ -137,34 +138,7 @@ place_of g = (alternative_returns g).place
 
 refused_alternative : (b : List ℕ) (at : ℕ) (before : Alternatives) (g : AlternativeFault) → read_alternative b at before ≡ Err g
     → (place_of g ≤ at) ⊎ (Symbolled b at before × ((place_of g ≤ at + 1) ⊎ ((length b ≡ at + 2) × (alternative.Short (length b) ≡ g))))
-refused_alternative b at before g e =
-    ⊎_elim (λ p. inl (let size = leb-true (length b) at p.0 in let is = ap place_of p.1 in omega arith))
-    (λ p1.
-    ⊎_elim (λ p. inl (let is = ap place_of p.1 in omega arith))
-    (λ p2.
-    ⊎_elim (λ p. inl (let is = ap place_of p.1 in omega arith))
-    (λ p3.
-    let both = or_parts (ltb (symbol_at b at) 33) (ltb 126 (symbol_at b at)) p2.0 in
-    let good : Symbolled b at before =
-    record {
-      room = leb-false (length b) at p1.0;
-      low = ltb-false (symbol_at b at) 33 both.0;
-      high = ltb-false 126 (symbol_at b at) both.1;
-      fresh = p3.0;
-    } in
-    ⊎_elim
-    (λ p.
-    let size = leb-true (length b) (at + 2) p.0 in
-    let is = ap place_of p.1 in
-    ⊎_elim (λ lt. inr (good, inl (omega arith))) (λ ge. inr (good, inr (omega arith, p.1))) (cases_lt (length b) (at + 2)))
-    (λ p4.
-    ⊎_elim (λ p. inr (good, inl (let is = ap place_of p.1 in omega arith)))
-    (λ p5. let wrong = p5.1 in let z : ◌≡◌ {A = ℕ} 0 1 = cc in absurd (omega arith))
-    (split (ltb (penalty_at b at) (last_penalty before)) _ _ p4.1))
-    (split (leb (length b) (at + 2)) _ _ p3.1))
-    (split (seen (symbol_at b at) before) _ _ p2.1))
-    (split (ltb (symbol_at b at) 33 || ltb 126 (symbol_at b at)) _ _ p1.1))
-    (split (leb (length b) at) _ _ e)
+refused_alternative b at before g e = grind (arith, nat_tests)
 
 -- where its high byte is too low, no low byte helps
 too_low : (b : List ℕ) (at : ℕ) (before : Alternatives) → Symbolled b at before → length b ≡ at + 2 → get_or b (at + 1) 0 * 256 + 255 < last_penalty before
@@ -177,12 +151,7 @@ too_low b at before s long lt next small =
     let low : get_or o (at + 2) 0 ≡ next = get_or_push b next 0 (at + 2) long in
     let back : at + 1 ≡ length b - 1 = omega arith in (
       alternative.Order (at + 1),
-      cond-false (leb (length o) at) _ _ (lt-leb (length o) at (omega arith))
-          ∙ cond-false (ltb (symbol_at o at) 33 || ltb 126 (symbol_at o at)) _ _
-          (or_from _ _ (le-ltb (symbol_at o at) 33 (omega (arith, s.low))) (le-ltb 126 (symbol_at o at) (omega (arith, s.high))))
-          ∙ cond-false (seen (symbol_at o at) before) _ _ (ap (λ x. seen x before) symbol ∙ s.fresh)
-          ∙ cond-false (leb (length o) (at + 2)) _ _ (lt-leb (length o) (at + 2) (omega arith))
-          ∙ cond-true (ltb (penalty_at o at) (last_penalty before)) _ _ (lt-ltb (penalty_at o at) (last_penalty before) (omega arith)),
+      grind (arith, nat_tests, s.room, s.low, s.high, s.fresh),
       ap (λ n. record { number = 5; place = n }) back,
     )
 
@@ -291,19 +260,13 @@ alternatives_complete : (b : List ℕ) (due at : ℕ) (before : Alternatives) (f
     → read_alternatives b due at before ≡ Err f
     → Outcome (AlternativesDone b at before due) (Lost cell_returns (λ o. read_alternatives o due at before) b f) (cell_returns f).place
 unfolding read_alternatives
-alternatives_complete b zero at before f all le room small e = let z : ◌≡◌ {A = ℕ} 0 1 = cc in absurd (omega arith)
+alternatives_complete b zero at before f all le room small e = cc
 alternatives_complete b (suc due) at before f all le room small e =
     alternatives_step b due at before f all le room small (λ a le2 room2 small2 is. alternatives_complete b due (at + 3) (before ++ a ∷ []) f all le2 room2 small2 is) (read_alternative b at before) refl e
 
 -- a count refused
 refused_count : (most : ℕ) (b : List ℕ) (at : ℕ) (g : CountFault) → read_count most b at ≡ Err g → (count_returns g).place ≤ at
-refused_count most b at g e =
-    ⊎_elim (λ p. let size = leb-true (length b) at p.0 in let is = ap (λ f. (count_returns f).place) p.1 in omega arith)
-    (λ p1.
-    ⊎_elim (λ p. let is = ap (λ f. (count_returns f).place) p.1 in omega arith)
-    (λ p2. let wrong = p2.1 in let z : ◌≡◌ {A = ℕ} 0 1 = cc in absurd (omega arith))
-    (split (ltb (get_or b at 0) 1 || ltb most (get_or b at 0)) _ _ p1.1))
-    (split (leb (length b) at) _ _ e)
+refused_count most b at g e = grind (arith, nat_tests)
 
 -- a count that stands, and what agrees behind it
 counted : (b : List ℕ) (at v n : ℕ) (y : List ℕ) → at < length b → get_or b at 0 ≡ v → take (n - (at + 1)) y ≡ take (n - (at + 1)) (drop (at + 1) b) → take (n - at) (v ∷ y) ≡ take (n - at) (drop at b)
@@ -430,7 +393,7 @@ cells_step b due at before f all le again (Err g) is e =
 cells_complete : (b : List ℕ) (due at : ℕ) (before : Cells) (f : LineFault) → Octets b → at ≤ length b → read_cells b due at before ≡ Err f
     → Outcome (CellsDone b at due) (Lost line_returns (λ o. read_cells o due at before) b f) (line_returns f).place
 unfolding read_cells
-cells_complete b zero at before f all le e = let z : ◌≡◌ {A = ℕ} 0 1 = cc in absurd (omega arith)
+cells_complete b zero at before f all le e = cc
 cells_complete b (suc due) at before f all le e =
     cells_step b due at before f all le (λ c next room is. cells_complete b due next (before ++ c ∷ []) f all room is) (read_cell b at) refl e
 
@@ -518,7 +481,7 @@ lines_end : (t : Bool) (b : List ℕ) (at : ℕ) (f : PageFault) → cond {A = R
 lines_end true b at f e =
     let up : page.Excess at ≡ f = cc in
     record { more = []; long = refl; well = tt; agrees = nothing ((page_returns f).place - at) _ _ (omega (arith, ap (λ x. (page_returns x).place) up)) }
-lines_end false b at f e = let z : ◌≡◌ {A = ℕ} 0 1 = cc in absurd (omega arith)
+lines_end false b at f e = cc
 
 lines_complete : (b : List ℕ) (due at number : ℕ) (f : PageFault) → Octets b → at ≤ length b → read_lines b due at number ≡ Err f
     → Outcome (LinesDone b at due) (Lost page_returns (λ o. read_lines o due at number) b f) (page_returns f).place
@@ -595,13 +558,11 @@ no_page_begins b f e doomed (lines, well, agree) =
     let fits : page_judged p.0 ≤ length (b ++ next ∷ []) = ⊎_elim (λ in1. in1.0) (λ out. absurd (omega (arith, out.1))) told.within in
     let alike : take (length b + 1) sheet ≡ take (length b + 1) (b ++ next ∷ []) = front ∙ sym (take_all (length b + 1) (b ++ next ∷ []) (omega arith)) in
     let bad = told.same sheet fits (shorter (page_judged p.0) (length b + 1) sheet (b ++ next ∷ []) (omega arith) alike) in
-    let z : ◌≡◌ {A = ℕ} 0 1 = cc in
-    omega arith)
+    cc)
     (λ less.
     let is : sheet ≡ b = sym (take_all (length b) sheet less) ∙ same in
     let bad : read_page sheet ≡ Err f = ap read_page is ∙ e in
-    let z : ◌≡◌ {A = ℕ} 0 1 = cc in
-    omega arith)
+    cc)
     (cases_lt (length b) (length sheet))
 
 -- fewer bytes of a good page begin one too

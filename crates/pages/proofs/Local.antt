@@ -284,7 +284,7 @@ pub record Refused (R : List ℕ → Result (Lines) PageFault) (low : ℕ) (b : 
   pub same : (o : List ℕ) → page_judged f ≤ length b → take (page_judged f) o ≡ take (page_judged f) b → R o ≡ Err f
 
 pub bad_before : (l : Cells) (r : Result (Lines) PageFault) {f : PageFault} → before_lines l r ≡ Err f → r ≡ Err f
-bad_before l (Ok more) e = let z : ◌≡◌ {A = ℕ} 0 1 = cc in absurd (omega arith)
+bad_before l (Ok more) e = cc
 bad_before l (Err g) e = e
 
 end_refused : (t : Bool) (at : ℕ) (b : List ℕ) (f : PageFault) → ltb at (length b) ≡ t → cond {A = Result (Lines) PageFault} t (Err (page.Excess at)) (Ok []) ≡ Err f → Refused (λ o. page_end o at) at b f
@@ -297,7 +297,7 @@ end_refused true at b f test e =
       within = inl (omega arith, not_one 6 (omega arith));
       same = λ o fits agree. cond-true (ltb at (length o)) _ _ (lt-ltb at (length o) (omega (arith, reaches (at + 1) o b fits agree)));
     })
-end_refused false at b f test e = let z : ◌≡◌ {A = ℕ} 0 1 = cc in absurd (omega arith)
+end_refused false at b f test e = cc
 
 line_refused : (due at number : ℕ) (b : List ℕ) (f : PageFault)
     → ((next : ℕ) → next ≤ length b → read_lines b due next (number + 1) ≡ Err f → Refused (λ o. read_lines o due next (number + 1)) next b f)

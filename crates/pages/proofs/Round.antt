@@ -1,19 +1,20 @@
 -- Reading and writing undo each other. Assumes nothing.
-use Rattle.std.proofs.Common.{◌≡◌, ℕ, zero, suc, ◌+◌, ◌*◌, ◌/◌, ◌%◌, ◌<◌, ◌≤◌, true, false, ◌||◌, ltb, leb, List, [], ◌∷◌, ◌++◌, length, get_or, take, drop, Ok, Err, Result, sym, refl, ap, ◌∙◌, subst, append_assoc, append-nil, add-zero, arith, length-append, length-drop}
+use Rattle.std.proofs.Common.{◌≡◌, ℕ, zero, suc, ◌+◌, ◌*◌, ◌/◌, ◌%◌, ◌<◌, ◌≤◌, true, false, ltb, List, [], ◌∷◌, ◌++◌, length, get_or, take, drop, Ok, Err, Result, sym, refl, ap, ◌∙◌, subst, append_assoc, append-nil, add-zero, arith, length-append, length-drop}
 use Rattle.std.specs.List.{flat_map, AllByRecursion}
 use Rattle.std.proofs.lemmas.List.{take_all, take-append-le, drop_all, drop_more, drop-drop, drop_at, get_or-drop}
-use Rattle.std.proofs.lemmas.Bool.{ltb-false, leb-false, eqb-false, ne_eqb, or_parts, or_from, le-ltb, lt-leb, cond-false}
+use Rattle.std.proofs.lemmas.Bool.{eqb-false, ne_eqb, or_parts, or_from, le-ltb, cond-false}
+use Rattle.std.proofs.lemmas.Bool.Decides.{nat_tests}
 use Rattle.pages.specs.declared.lines.Alternative.{Alternative}
 use Rattle.pages.specs.declared.faults.CellFault.TheVariants as cell
 use Rattle.pages.specs.declared.faults.LineFault.TheVariants as line
 use Rattle.pages.specs.declared.faults.PageFault.{PageFault}
 use Rattle.pages.specs.declared.faults.PageFault.TheVariants as page
 use Rattle.pages.specs.Shape.{Alternatives, Cells, Lines, seen, well_formed_page}
-use Rattle.pages.specs.Reading.{last_penalty, symbol_at, penalty_at, onward, read_alternative, read_count, read_alternatives, read_cell, read_cells, read_line, read_lines, read_page, before_lines}
+use Rattle.pages.specs.Reading.{last_penalty, symbol_at, penalty_at, onward, read_alternative, read_count, read_alternatives, read_cell, read_cells, read_line, read_lines, page_end, read_page, before_lines}
 use Rattle.pages.specs.Writing.{alternative_bytes, cell_bytes, line_bytes, page_bytes}
 use Rattle.pages.specs.Laws.{Stands, Accepted}
 use Rattle.pages.proofs.Shape.{Apart, Rises, InRange, WellFormedCell, WellFormedLine, page_parts, page_from}
-use Rattle.pages.proofs.Steps.{passed, Counts, counts}
+use Rattle.pages.proofs.Steps.{Counts, counts}
 
 abbrev pub Octets : List ℕ → Type 0
 Octets bytes = (i : ℕ) → get_or bytes i 0 < 256
@@ -27,7 +28,7 @@ Fair before (a ∷ c) =
 -- a value under `onward` came from a value
 came : {A B E F : Type 0} (r : Result A E) (up : E → F) (next : A → Result B F) {y : B} → onward r up next ≡ Ok y → (x : A) × (r ≡ Ok x) × (next x ≡ Ok y)
 came (Ok x) up next e = (x, refl, e)
-came (Err f) up next e = let z : ◌≡◌ {A = ℕ} 0 1 = cc in absurd (omega arith)
+came (Err f) up next e = cc
 
 pub record Reads (bytes : List ℕ) (at : ℕ) (before : Alternatives) (a : Alternative) : Type 0 where
   pub room : at + 3 ≤ length bytes
@@ -39,37 +40,21 @@ pub record Reads (bytes : List ℕ) (at : ℕ) (before : Alternatives) (a : Alte
 
 pub reads : (bytes : List ℕ) (at : ℕ) (before : Alternatives) (a : Alternative) → read_alternative bytes at before ≡ Ok a → Reads bytes at before a
 reads bytes at before a e =
-    let p1 = passed (leb (length bytes) at) _ _ e in
-    let p2 = passed (ltb (symbol_at bytes at) 33 || ltb 126 (symbol_at bytes at)) _ _ p1.1 in
-    let p3 = passed (seen (symbol_at bytes at) before) _ _ p2.1 in
-    let p4 = passed (leb (length bytes) (at + 2)) _ _ p3.1 in
-    let p5 = passed (ltb (penalty_at bytes at) (last_penalty before)) _ _ p4.1 in
-    let both = or_parts _ _ p2.0 in
-    let end = p5.1 in
     record {
-      room = omega (arith, leb-false (length bytes) (at + 2) p4.0);
-      is = cc;
-      low = ltb-false (symbol_at bytes at) 33 both.0;
-      high = ltb-false 126 (symbol_at bytes at) both.1;
-      fresh = p3.0;
-      order = ltb-false (penalty_at bytes at) (last_penalty before) p5.0;
+      room = grind (arith, nat_tests);
+      is = grind (arith, nat_tests);
+      low = grind (arith, nat_tests);
+      high = grind (arith, nat_tests);
+      fresh = grind (arith, nat_tests);
+      order = grind (arith, nat_tests);
     }
 
 reads_alternative : (bytes : List ℕ) (at : ℕ) (before : Alternatives) (a : Alternative) → Reads bytes at before a → read_alternative bytes at before ≡ Ok a
-reads_alternative bytes at before a h =
-    cond-false (leb (length bytes) at) _ _ (lt-leb (length bytes) at (omega (arith, h.room)))
-    ∙ cond-false (ltb (symbol_at bytes at) 33 || ltb 126 (symbol_at bytes at)) _ _ (or_from _ _ (le-ltb (symbol_at bytes at) 33 h.low) (le-ltb 126 (symbol_at bytes at) h.high))
-    ∙ cond-false (seen (symbol_at bytes at) before) _ _ h.fresh
-    ∙ cond-false (leb (length bytes) (at + 2)) _ _ (lt-leb (length bytes) (at + 2) (omega (arith, h.room)))
-    ∙ cond-false (ltb (penalty_at bytes at) (last_penalty before)) _ _ (le-ltb (penalty_at bytes at) (last_penalty before) h.order)
-    ∙ ap Ok h.is
+reads_alternative bytes at before a h = grind (arith, nat_tests)
 
 -- a count likewise
 counts_back : (most : ℕ) (bytes : List ℕ) (at n : ℕ) → Counts most bytes at n → read_count most bytes at ≡ Ok n
-counts_back most bytes at n h =
-    cond-false (leb (length bytes) at) _ _ (lt-leb (length bytes) at h.room)
-    ∙ cond-false (ltb (get_or bytes at 0) 1 || ltb most (get_or bytes at 0)) _ _ (or_from _ _ (le-ltb (get_or bytes at 0) 1 (omega (arith, h.is, h.low))) (le-ltb most (get_or bytes at 0) (omega (arith, h.is, h.high))))
-    ∙ ap Ok h.is
+counts_back most bytes at n h = grind (arith, nat_tests)
 
 -- bytes one after another
 stands_none : (bytes : List ℕ) (at next : ℕ) → at ≤ length bytes → next ≡ at → Stands bytes at [] next
@@ -356,15 +341,17 @@ record GotLines (bytes : List ℕ) (at due : ℕ) (lines : Lines) : Type 0 where
 came_before : (l : Cells) (r : Result (Lines) PageFault) {lines : Lines} → before_lines l r ≡ Ok lines
     → (more : Lines) × (r ≡ Ok more) × (l ∷ more ≡ lines)
 came_before l (Ok more) e = (more, refl, cc)
-came_before l (Err f) e = let z : ◌≡◌ {A = ℕ} 0 1 = cc in absurd (omega arith)
+came_before l (Err f) e = cc
+
+-- no line more is read where the page ends
+page_ended : (bytes : List ℕ) (at : ℕ) (lines : Lines) → page_end bytes at ≡ Ok lines → (length bytes ≤ at) × ([] ≡ lines)
+page_ended bytes at lines e = (grind (arith, nat_tests), grind (arith, nat_tests))
 
 got_lines : (bytes : List ℕ) (due at number : ℕ) (lines : Lines) → Octets bytes → read_lines bytes due at number ≡ Ok lines → GotLines bytes at due lines
 unfolding read_lines
 got_lines bytes zero at number lines all e =
-    let p = passed (ltb at (length bytes)) _ _ e in
-    let end = p.1 in
-    let none : [] ≡ lines = cc in
-    subst (GotLines bytes at 0) none (record { long = refl; well = tt; stands = drop_all at bytes (ltb-false at (length bytes) p.0) })
+    let end = page_ended bytes at lines e in
+    subst (GotLines bytes at 0) end.1 (record { long = refl; well = tt; stands = drop_all at bytes end.0 })
 got_lines bytes (suc due) at number lines all e =
     let p = came (read_line bytes at) _ _ e in
     let q = came_before p.0.0 _ p.2 in

@@ -1,7 +1,8 @@
 -- What a well-formed line says, part by part. Assumes nothing.
-use Rattle.std.proofs.Common.{◌≡◌, ℕ, ◌<◌, ◌≤◌, Bool, true, false, List, [], ◌∷◌, length, refl}
+use Rattle.std.proofs.Common.{◌≡◌, ℕ, ◌<◌, ◌≤◌, Bool, true, false, List, [], ◌∷◌, length, refl, arith}
 use Rattle.std.specs.List.{AllByRecursion}
-use Rattle.std.proofs.lemmas.Bool.{and_parts, and_from, or_parts, or_from, leb-true, le-leb, ltb-true, lt-ltb, eqb-false, ne_eqb, not-true, not_from_false}
+use Rattle.std.proofs.lemmas.Bool.{and_parts, and_from, or_parts, or_from, leb-true, le-leb, eqb-false, ne_eqb, not-true, not_from_false}
+use Rattle.std.proofs.lemmas.Bool.Decides.{nat_tests}
 use Rattle.pages.specs.declared.lines.Alternative.{Alternative}
 use Rattle.pages.specs.Shape.{Alternatives, Cells, Lines, seen, in_range, once, rising, every, one_to, well_formed_cell, well_formed_line, well_formed_page}
 
@@ -71,19 +72,16 @@ rises_rising low [] h = refl
 rises_rising low (a ∷ more) h = and_from _ _ (le-leb low a.penalty h.0) (rises_rising a.penalty more h.1)
 
 range_parts : (a : Alternative) → in_range a ≡ true → InRange a
-range_parts a e =
-    let p = and_parts _ _ e in
-    let q = and_parts _ _ p.0 in
-    record { low = leb-true 33 a.symbol q.0; high = leb-true a.symbol 126 q.1; small = ltb-true a.penalty 65536 p.1 }
+range_parts a e = record { low = grind (arith, nat_tests); high = grind (arith, nat_tests); small = grind (arith, nat_tests) }
 
 range_from : (a : Alternative) → InRange a → in_range a ≡ true
-range_from a h = and_from _ _ (and_from _ _ (le-leb 33 a.symbol h.low) (le-leb a.symbol 126 h.high)) (lt-ltb a.penalty 65536 h.small)
+range_from a h = grind (arith, nat_tests)
 
 one_to_parts : (most n : ℕ) → one_to most n ≡ true → (1 ≤ n) × (n ≤ most)
-one_to_parts most n e = let p = and_parts _ _ e in (leb-true 1 n p.0, leb-true n most p.1)
+one_to_parts most n e = (grind (arith, nat_tests), grind (arith, nat_tests))
 
 one_to_from : (most n : ℕ) → 1 ≤ n → n ≤ most → one_to most n ≡ true
-one_to_from most n some few = and_from _ _ (le-leb 1 n some) (le-leb n most few)
+one_to_from most n some few = grind (arith, nat_tests)
 
 pub cell_parts : (c : Alternatives) → well_formed_cell c ≡ true → WellFormedCell c
 unfolding well_formed_cell

@@ -1,7 +1,7 @@
 -- What the readings of specs/Reading.antt come to within a line, one step at a time. Assumes nothing.
-use Rattle.std.proofs.Common.{◌≡◌, ℕ, suc, ◌+◌, ◌-◌, ◌<◌, ◌≤◌, Bool, true, false, cond, ◌||◌, ltb, leb, ◌⊎◌, List, [], ◌∷◌, ◌++◌, length, get_or, Ok, Err, Result, sym, refl, ap, ◌∙◌, subst, inl, inr, arith}
+use Rattle.std.proofs.Common.{◌≡◌, ℕ, suc, ◌+◌, ◌-◌, ◌<◌, ◌≤◌, List, [], ◌∷◌, ◌++◌, length, get_or, Ok, Err, Result, sym, refl, ap, ◌∙◌, subst, arith}
 use Rattle.std.proofs.lemmas.List.{length_push}
-use Rattle.std.proofs.lemmas.Bool.{ltb-false, leb-false, or_parts}
+use Rattle.std.proofs.lemmas.Bool.Decides.{nat_tests}
 use Rattle.pages.specs.declared.lines.Alternative.{Alternative}
 use Rattle.pages.specs.declared.faults.AlternativeFault.{AlternativeFault}
 use Rattle.pages.specs.declared.faults.CountFault.{CountFault}
@@ -9,19 +9,8 @@ use Rattle.pages.specs.declared.faults.CellFault.{CellFault}
 use Rattle.pages.specs.declared.faults.CellFault.TheVariants as cell
 use Rattle.pages.specs.declared.faults.LineFault.{LineFault}
 use Rattle.pages.specs.declared.faults.LineFault.TheVariants as line
-use Rattle.pages.specs.declared.faults.Numbered.{Numbered}
 use Rattle.pages.specs.Shape.{Alternatives, Cells}
 use Rattle.pages.specs.Reading.{last_penalty, onward, read_count, read_alternative, read_alternatives, read_cell, read_cells, read_line}
-
--- a test that refuses was false where the answer is a value
-pub passed : {A F : Type 0} (b : Bool) (f : F) (r : Result A F) {x : A} → cond b (Err f) r ≡ Ok x → (b ≡ false) × (r ≡ Ok x)
-passed true f r e = let z : ◌≡◌ {A = ℕ} 0 1 = cc in absurd (omega arith)
-passed false f r e = (refl, e)
-
--- a refused test or reading
-pub split : {A F : Type 0} (t : Bool) (f : F) (r : Result A F) {g : F} → cond t (Err f) r ≡ Err g → ((t ≡ true) × (f ≡ g)) ⊎ ((t ≡ false) × (r ≡ Err g))
-split true f r e = inl (refl, cc)
-split false f r e = inr (refl, e)
 
 -- what a count that is read says
 pub record Counts (most : ℕ) (bytes : List ℕ) (at n : ℕ) : Type 0 where
@@ -31,18 +20,7 @@ pub record Counts (most : ℕ) (bytes : List ℕ) (at n : ℕ) : Type 0 where
   pub high : n ≤ most
 
 pub counts : (most : ℕ) (bytes : List ℕ) (at n : ℕ) → read_count most bytes at ≡ Ok n → Counts most bytes at n
-counts most bytes at n e =
-    let p1 = passed (leb (length bytes) at) _ _ e in
-    let p2 = passed (ltb (get_or bytes at 0) 1 || ltb most (get_or bytes at 0)) _ _ p1.1 in
-    let both = or_parts (ltb (get_or bytes at 0) 1) (ltb most (get_or bytes at 0)) p2.0 in
-    let end = p2.1 in
-    let is : get_or bytes at 0 ≡ n = cc in
-    record {
-      room = leb-false (length bytes) at p1.0;
-      is = is;
-      low = omega (arith, ltb-false (get_or bytes at 0) 1 both.0);
-      high = omega (arith, ltb-false most (get_or bytes at 0) both.1);
-    }
+counts most bytes at n e = record { room = grind (arith, nat_tests); is = grind (arith, nat_tests); low = grind (arith, nat_tests); high = grind (arith, nat_tests) }
 
 pub last_is : (xs : Alternatives) (d : Alternative) → 0 < length xs → (get_or xs (length xs - 1) d).penalty ≡ last_penalty xs
 last_is [] d h = absurd (omega arith)
@@ -58,16 +36,14 @@ after_cell bytes due before r =
     (λ c. read_cells bytes due c.1 (before ++ c.0 ∷ []))
 
 -- between two cells: the cells still due give what the line's reading gives
-pub record Between (bytes : List ℕ) (at count number place : ℕ) (cells : Cells) (outcome : Result (Unit {0}) (Numbered CellFault)) : Type 0 where
+pub record Between (bytes : List ℕ) (at count number place : ℕ) (cells : Cells) : Type 0 where
   pub whole : read_line bytes at ≡ read_cells bytes (count - number) place cells
   pub long : length cells ≡ number
-  pub sound : outcome ≡ Ok tt
 
 -- within a cell: so do the alternatives still due, with the cells behind
-pub record Within (bytes : List ℕ) (at due place : ℕ) (alternatives : Alternatives) (behind number : ℕ) (cells : Cells) (outcome : Result (Unit {0}) (Numbered CellFault)) : Type 0 where
+pub record Within (bytes : List ℕ) (at due place : ℕ) (alternatives : Alternatives) (behind number : ℕ) (cells : Cells) : Type 0 where
   pub whole : read_line bytes at ≡ after_cell bytes behind cells (read_alternatives bytes due place alternatives)
   pub long : length cells ≡ number
-  pub sound : outcome ≡ Ok tt
 
 -- one more is due
 pub one_due : (m n : ℕ) → n < m → m - n ≡ suc (m - (n + 1))
@@ -77,23 +53,22 @@ pub none_due : (m n : ℕ) → m ≤ n → m - n ≡ 0
 none_due m n h = omega arith
 
 -- the same of an equal list
-pub between_at : {bytes : List ℕ} {at count number place : ℕ} {cells same : Cells} {outcome : Result (Unit {0}) (Numbered CellFault)}
-    → same ≡ cells → Between bytes at count number place cells outcome → Between bytes at count number place same outcome
-between_at {bytes} {at} {count} {number} {place} {cells} {same} {outcome} e h = subst (λ l. Between bytes at count number place l outcome) (sym e) h
+pub between_at : {bytes : List ℕ} {at count number place : ℕ} {cells same : Cells}
+    → same ≡ cells → Between bytes at count number place cells → Between bytes at count number place same
+between_at {bytes} {at} {count} {number} {place} {cells} {same} e h = subst (λ l. Between bytes at count number place l) (sym e) h
 
-pub within_at : {bytes : List ℕ} {at due place behind number : ℕ} {alternatives same : Alternatives} {cells : Cells} {outcome : Result (Unit {0}) (Numbered CellFault)}
-    → same ≡ alternatives → Within bytes at due place alternatives behind number cells outcome → Within bytes at due place same behind number cells outcome
-within_at {bytes} {at} {due} {place} {behind} {number} {alternatives} {same} {cells} {outcome} e h =
-    subst (λ l. Within bytes at due place l behind number cells outcome) (sym e) h
+pub within_at : {bytes : List ℕ} {at due place behind number : ℕ} {alternatives same : Alternatives} {cells : Cells}
+    → same ≡ alternatives → Within bytes at due place alternatives behind number cells → Within bytes at due place same behind number cells
+within_at {bytes} {at} {due} {place} {behind} {number} {alternatives} {same} {cells} e h =
+    subst (λ l. Within bytes at due place l behind number cells) (sym e) h
 
 -- the count of a line opens its first cell
-pub opened : (bytes : List ℕ) (at count : ℕ) → read_count 24 bytes at ≡ Ok count → Between bytes at count 0 (at + 1) [] (Ok tt)
+pub opened : (bytes : List ℕ) (at count : ℕ) → read_count 24 bytes at ≡ Ok count → Between bytes at count 0 (at + 1) []
 unfolding read_line
 opened bytes at count e =
     record {
       whole = ap (λ r. onward r line.Count (λ due. read_cells bytes due (at + 1) [])) e ∙ ap (λ n. read_cells bytes n (at + 1) []) (omega arith);
       long = refl;
-      sound = refl;
     }
 
 -- or refuses it
@@ -101,15 +76,15 @@ pub no_line : (bytes : List ℕ) (at : ℕ) (f : CountFault) → read_count 24 b
 unfolding read_line
 no_line bytes at f e = ap (λ r. onward r line.Count (λ due. read_cells bytes due (at + 1) [])) e
 
-module _ {bytes : List ℕ} {at : ℕ} {outcome : Result (Unit {0}) (Numbered CellFault)} where
-  module _ {count number place : ℕ} {cells : Cells} (h : Between bytes at count number place cells outcome) where
+module _ {bytes : List ℕ} {at : ℕ} where
+  module _ {count number place : ℕ} {cells : Cells} (h : Between bytes at count number place cells) where
     -- what is left begins with a cell
     begins : number < count → read_line bytes at ≡ after_cell bytes (count - (number + 1)) cells (read_cell bytes place)
     unfolding read_cells
     begins lt = h.whole ∙ ap (λ n. read_cells bytes n place cells) (one_due count number lt)
 
     -- the count of a cell opens it
-    pub enter : (due : ℕ) → number < count → read_count 8 bytes place ≡ Ok due → Within bytes at (due - 0) (place + 1) [] (count - (number + 1)) number cells outcome
+    pub enter : (due : ℕ) → number < count → read_count 8 bytes place ≡ Ok due → Within bytes at (due - 0) (place + 1) [] (count - (number + 1)) number cells
     unfolding read_cell
     enter due lt e =
         record {
@@ -118,7 +93,6 @@ module _ {bytes : List ℕ} {at : ℕ} {outcome : Result (Unit {0}) (Numbered Ce
               ∙ ap (λ r. after_cell bytes (count - (number + 1)) cells (onward r cell.Count (λ d. read_alternatives bytes d (place + 1) []))) e
               ∙ ap (λ n. after_cell bytes (count - (number + 1)) cells (read_alternatives bytes n (place + 1) [])) (omega arith);
           long = h.long;
-          sound = h.sound;
         }
 
     -- or refuses it
@@ -134,7 +108,7 @@ module _ {bytes : List ℕ} {at : ℕ} {outcome : Result (Unit {0}) (Numbered Ce
     unfolding read_cells
     ended le = h.whole ∙ ap (λ n. read_cells bytes n place cells) (none_due count number le)
 
-  module _ (due counter : ℕ) {place behind number : ℕ} {alternatives : Alternatives} {cells : Cells} (h : Within bytes at (due - counter) place alternatives behind number cells outcome) where
+  module _ (due counter : ℕ) {place behind number : ℕ} {alternatives : Alternatives} {cells : Cells} (h : Within bytes at (due - counter) place alternatives behind number cells) where
     goes : (r : Result Alternative AlternativeFault) → counter < due → read_alternative bytes place alternatives ≡ r
         → read_line bytes at ≡ after_cell bytes behind cells (onward r cell.Alternative (λ a. read_alternatives bytes (due - (counter + 1)) (place + 3) (alternatives ++ a ∷ [])))
     unfolding read_alternatives
@@ -145,8 +119,8 @@ module _ {bytes : List ℕ} {at : ℕ} {outcome : Result (Unit {0}) (Numbered Ce
 
     -- one alternative more
     pub more : (a : Alternative) → counter < due → read_alternative bytes place alternatives ≡ Ok a
-        → Within bytes at (due - (counter + 1)) (place + 3) (alternatives ++ a ∷ []) behind number cells outcome
-    more a lt e = record { whole = goes (Ok a) lt e; long = h.long; sound = h.sound }
+        → Within bytes at (due - (counter + 1)) (place + 3) (alternatives ++ a ∷ []) behind number cells
+    more a lt e = record { whole = goes (Ok a) lt e; long = h.long }
 
     -- a bad alternative ends the line
     pub bad_alternative : (f : AlternativeFault) → counter < due → read_alternative bytes place alternatives ≡ Err f
@@ -154,7 +128,7 @@ module _ {bytes : List ℕ} {at : ℕ} {outcome : Result (Unit {0}) (Numbered Ce
     bad_alternative f lt e = goes (Err f) lt e ∙ ap (λ n. Err (line.Cell (record { number = n; fault = cell.Alternative f }))) h.long
 
     -- the cell is whole
-    pub leave : (count : ℕ) → behind ≡ count - (number + 1) → due ≤ counter → Between bytes at count (number + 1) place (cells ++ alternatives ∷ []) outcome
+    pub leave : (count : ℕ) → behind ≡ count - (number + 1) → due ≤ counter → Between bytes at count (number + 1) place (cells ++ alternatives ∷ [])
     unfolding read_alternatives
     leave count e le =
         record {
@@ -163,13 +137,4 @@ module _ {bytes : List ℕ} {at : ℕ} {outcome : Result (Unit {0}) (Numbered Ce
               ∙ ap (λ n. after_cell bytes behind cells (read_alternatives bytes n place alternatives)) (none_due due counter le)
               ∙ ap (λ n. read_cells bytes n place (cells ++ alternatives ∷ [])) e;
           long = length_push cells alternatives ∙ ap (λ n. n + 1) h.long;
-          sound = h.sound;
         }
-
--- what `outcome?` hands up is the fault that the loops were left with
-pub left_with : {outcome : Result (Unit {0}) (Numbered CellFault)} {reading : Result (Cells × ℕ) LineFault} (e : Numbered CellFault) (number : ℕ) (f g : CellFault)
-    → outcome ≡ Err e → outcome ≡ Err (record { number = number; fault = f }) → f ≡ g → reading ≡ Err (line.Cell (record { number = number; fault = g })) → reading ≡ Err (line.Cell e)
-left_with e number f g was is same h = cc
-
-pub not_both : {outcome : Result (Unit {0}) (Numbered CellFault)} (e : Numbered CellFault) → outcome ≡ Err e → outcome ≡ Ok tt → ⊥
-not_both e p q = let z : ◌≡◌ {A = ℕ} 0 1 = cc in omega arith

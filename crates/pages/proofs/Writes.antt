@@ -1,7 +1,9 @@
 -- What the bytes of specs/Writing.antt come to, one step at a time. Assumes nothing.
-use Rattle.std.proofs.Common.{◌≡◌, ℕ, ◌+◌, ◌*◌, ◌/◌, ◌%◌, ◌<◌, ◌≤◌, List, [], ◌∷◌, ◌++◌, length, get_or, take, drop, set, sym, refl, ap, ◌∙◌, subst, add-zero, arith, length-append, length-drop}
-use Rattle.std.specs.List.{flat_map}
-use Rattle.std.proofs.lemmas.List.{drop_more, drop_all, get_or-map, length-map, get_or-drop, take_more, take_more_set, drop-set-lt, length-set, take-append-drop, take_all}
+use Rattle.std.proofs.Common.{◌≡◌, ℕ, suc, ◌+◌, ◌*◌, ◌/◌, ◌%◌, ◌<◌, ◌≤◌, List, [], ◌∷◌, ◌++◌, length, get_or, map, take, drop, set, sym, refl, ap, ◌∙◌, subst, arith, append_assoc, length-append, length-drop, length-take}
+use Rattle.std.specs.List.{flat_map, sum_by, AllByRecursion}
+use Rattle.std.proofs.lemmas.List.{set_split, drop_more, drop_all, get_or-map, length-map, take-append-drop, take_all, take_at, drop_at, drop-drop}
+use Rattle.std.proofs.lemmas.Slice.{drop-append-drop}
+use Rattle.std.proofs.lemmas.List.Sums.{sum_by-cons}
 use Rattle.pages.specs.declared.lines.Alternative.{Alternative}
 use Rattle.pages.specs.declared.lines.Cell.{Cell}
 use Rattle.pages.specs.declared.lines.Line.{Line}
@@ -9,6 +11,7 @@ use Rattle.pages.specs.Few.{few_items}
 use Rattle.pages.specs.Shape.{Alternatives, Cells, cell_of}
 use Rattle.pages.specs.Answers.{line_of}
 use Rattle.pages.specs.Writing.{alternative_bytes, cell_bytes, line_bytes}
+use Rattle.pages.proofs.Shape.{WellFormedCell}
 
 pub length_alternatives : (c : Alternatives) → length (flat_map alternative_bytes c) ≡ 3 * length c
 length_alternatives [] = refl
@@ -32,20 +35,16 @@ held line items i d alternatives same lt own =
 pub as_many : (line : Line) (items : List Cell) → items ≡ few_items line.cells → length (line_of line) ≡ length items
 as_many line items same = length-map (few_items line.cells) cell_of ∙ sym (ap length same)
 
--- behind some cells: what is measured, and what is left to measure
-pub record Measured (cells : Cells) (i size : ℕ) : Type 0 where
-  pub whole : size + length (flat_map cell_bytes (drop i cells)) ≡ length (line_bytes cells)
-  pub small : size ≤ 1 + 25 * i
+-- the bytes of the cells, cell by cell
+pub cells_size : (cells : List Cell) → length (flat_map cell_bytes (map cell_of cells)) ≡ sum_by (λ c. 1 + 3 * length (cell_of c)) cells
+cells_size [] = refl
+cells_size (c ∷ cells) =
+    omega (arith, length-append (cell_bytes (cell_of c)) (flat_map cell_bytes (map cell_of cells)), length_alternatives (cell_of c), cells_size cells, sum_by-cons (λ c. 1 + 3 * length (cell_of c)) c cells)
 
-pub measured_more : {cells : Cells} {i size : ℕ} (c : Alternatives) → Measured cells i size → i < length cells → get_or cells i [] ≡ c → length c ≤ 8
-    → Measured cells (i + 1) (size + (1 + 3 * length c))
-measured_more {cells} {i} {size} c h lt is le =
-    let next = ap (λ l. length (flat_map cell_bytes l)) (drop_more cells i [] lt ∙ ap (λ x. x ∷ drop (i + 1) cells) is) in
-    let long = length-append (flat_map alternative_bytes c) (flat_map cell_bytes (drop (i + 1) cells)) in
-    record { whole = omega (arith, h.whole, next, long, length_alternatives c); small = omega (arith, h.small) }
-
-pub measured_all : {cells : Cells} {i size : ℕ} → Measured cells i size → length cells ≤ i → size ≡ length (line_bytes cells)
-measured_all {cells} {i} {size} h le = omega (arith, h.whole, ap (λ l. length (flat_map cell_bytes l)) (drop_all i cells le))
+-- which are few
+pub cells_small : (l : Cells) → AllByRecursion WellFormedCell l → length (flat_map cell_bytes l) ≤ 25 * length l
+cells_small [] h = omega arith
+cells_small (c ∷ l) h = omega (arith, length-append (cell_bytes c) (flat_map cell_bytes l), length_alternatives c, h.0.few, cells_small l h.1)
 
 -- bytes are being laid at the start of a place: those before `at` stand there, and behind it the place is as it was from `start` on
 pub record Laid (whole was : List ℕ) (start : ℕ) (place : List ℕ) (at : ℕ) (rest : List ℕ) : Type 0 where
@@ -71,6 +70,26 @@ laid_through h g =
 pub laid_at : {whole was place rest same : List ℕ} {start at : ℕ} → rest ≡ same → Laid whole was start place at rest → Laid whole was start place at same
 laid_at {whole} {was} {place} {rest} {same} {start} {at} e h = subst (Laid whole was start place at) e h
 
+-- what comes next is laid
+pub put_part : {whole was place rest : List ℕ} {start at : ℕ} (part : List ℕ) → Laid whole was start place at (part ++ rest)
+    → Laid whole was start (take at place ++ (part ++ drop (at + length part) place)) (at + length part) rest
+put_part {whole} {was} {place} {rest} {start} {at} part h =
+    let n = at + length part in
+    let room : at + length part ≤ length whole = omega (arith, ap length h.left, length-drop at whole, length-append part rest) in
+    let long : length (take at place ++ part) ≡ at + length part = omega (arith, length-append (take at place) part, length-take at place, h.fits) in
+    let whole_long : length (take at whole ++ part) ≡ at + length part = omega (arith, length-append (take at whole) part, length-take at whole) in
+    let flat = append_assoc (take at place) part (drop n place) in
+    record {
+      front =
+          ap (take n) (sym flat) ∙ take_at (take at place ++ part) (drop n place) n long ∙ ap (λ l. l ++ part) h.front
+          ∙ sym (ap (take n) (sym (take-append-drop at whole) ∙ ap (λ l. take at whole ++ l) h.left ∙ sym (append_assoc (take at whole) part rest)) ∙ take_at (take at whole ++ part) rest n whole_long);
+      back = λ k le. ap (drop k) (sym flat) ∙ drop-append-drop n place (take at place ++ part) k le long ∙ h.back k (omega arith);
+      left = sym (drop-drop (length part) at whole) ∙ ap (drop (length part)) h.left ∙ drop_at part rest _ refl;
+      fits = omega (arith, h.fits, ap length flat, long, length-append (take at place ++ part) (drop n place), length-drop n place);
+      from = omega (arith, h.from);
+      upto = room;
+    }
+
 module _ {whole was place rest : List ℕ} {start at v : ℕ} (h : Laid whole was start place at (v ∷ rest)) where
   pub laid_within : at < length whole
   laid_within = omega (arith, ap length h.left, length-drop at whole)
@@ -78,33 +97,11 @@ module _ {whole was place rest : List ℕ} {start at v : ℕ} (h : Laid whole wa
   pub laid_room : at < length place
   laid_room = omega (arith, laid_within, h.fits)
 
-  stands : get_or whole at 0 ≡ v
-  stands = ap (λ i. get_or whole i 0) (sym (add-zero at)) ∙ sym (get_or-drop at whole 0 0) ∙ ap (λ l. get_or l 0 0) h.left
-
+  -- where it is one byte
   pub put : Laid whole was start (set place at v) (at + 1) rest
   put =
-      let front = take_more_set place at v laid_room in
-      let whole-front = take_more whole at 0 laid_within in
-      let whole-left = drop_more whole at 0 laid_within in
-      let is = stands in
-      let was-front = h.front in
-      let was_left = h.left in
-      record {
-        front = cc;
-        back = λ k le. drop-set-lt k place at v (omega arith) ∙ h.back k (omega arith);
-        left = cc;
-        fits = omega (arith, h.fits, length-set place at v);
-        from = omega (arith, h.from);
-        upto = omega (arith, laid_within);
-      }
-
--- the three bytes of an alternative
-pub put_three : {whole was place rest : List ℕ} {start at u v w : ℕ} → Laid whole was start place at (u ∷ v ∷ w ∷ rest) → Laid whole was start (set (set (set place at u) (at + 1) v) (at + 2) w) (at + 3) rest
-put_three {whole} {was} {place} {rest} {start} {at} {u} {v} {w} h =
-    let two : (at + 1) + 1 ≡ at + 2 = omega arith in
-    let three : ((at + 1) + 1) + 1 ≡ at + 3 = omega arith in
-    subst (λ i. Laid whole was start (set (set (set place at u) (at + 1) v) (at + 2) w) i rest) three
-    (subst (λ j. Laid whole was start (set (set (set place at u) (at + 1) v) j w) (((at + 1) + 1) + 1) rest) two (put (put (put h))))
+      let next : suc at ≡ at + 1 = omega arith in
+      subst (λ l. Laid whole was start l (at + 1) rest) (sym (set_split place at v laid_room ∙ ap (λ n. take at place ++ v ∷ drop n place) next)) (put_part (v ∷ []) h)
 
 pub room_three : {whole was place rest : List ℕ} {start at u v w : ℕ} → Laid whole was start place at (u ∷ v ∷ w ∷ rest) → at + 3 ≤ length place
 room_three {whole} {at = at} h = omega (arith, ap length h.left, length-drop at whole, h.fits)
@@ -114,13 +111,6 @@ pub cell_next : {whole was place : List ℕ} {start at : ℕ} (cells : Cells) (i
     → Laid whole was start place at (flat_map cell_bytes (drop i cells)) → i < length cells → get_or cells i [] ≡ c
     → Laid whole was start place at (length c ∷ (flat_map alternative_bytes c ++ flat_map cell_bytes (drop (i + 1) cells)))
 cell_next cells i c h lt is = laid_at (ap (flat_map cell_bytes) (drop_more cells i [] lt ∙ ap (λ x. x ∷ drop (i + 1) cells) is)) h
-
-pub open_cell : {whole was place : List ℕ} {start at : ℕ} (cells : Cells) (i : ℕ) (c items : Alternatives) (n : ℕ)
-    → Laid whole was start place at (flat_map cell_bytes (drop i cells)) → i < length cells → get_or cells i [] ≡ c → n ≡ length c → items ≡ c
-    → Laid whole was start (set place at n) (at + 1) (flat_map alternative_bytes items ++ flat_map cell_bytes (drop (i + 1) cells))
-open_cell {whole} {was} {place} {start} {at} cells i c items n h lt is long same =
-    subst (λ m. Laid whole was start (set place at m) (at + 1) (flat_map alternative_bytes items ++ flat_map cell_bytes (drop (i + 1) cells))) (sym long)
-    (laid_at (ap (λ l. flat_map alternative_bytes l ++ flat_map cell_bytes (drop (i + 1) cells)) (sym same)) (put (cell_next cells i c h lt is)))
 
 pub alternative_next : {whole was place : List ℕ} {start at : ℕ} (items : Alternatives) (j : ℕ) (tail : List ℕ) (d : Alternative)
     → Laid whole was start place at (flat_map alternative_bytes (drop j items) ++ tail) → j < length items
@@ -141,12 +131,6 @@ laid_all {whole} {was} {place} {start} {at} h =
     let end : at ≡ length whole = omega (arith, ap length h.left, length-drop at whole, h.upto) in
     (end, sym (take-append-drop at place) ∙ ap (λ l. l ++ drop at place) (h.front ∙ take_all at whole (omega arith)) ∙ ap (λ l. whole ++ l) (h.back at (omega arith)))
 
--- the count of the cells is laid
-pub begun : (cells : Cells) (place : List ℕ) (n : ℕ) → n ≡ length cells → length (line_bytes cells) ≤ length place
-    → Laid (line_bytes cells) place 0 (set place 0 n) 1 (flat_map cell_bytes cells)
-begun cells place n e h =
-    subst (λ m. Laid (line_bytes cells) place 0 (set place 0 m) 1 (flat_map cell_bytes cells)) (sym e) (put (laid_none (line_bytes cells) place h))
-
 -- there is room for an alternative
 pub next_room : {whole was place : List ℕ} {start at : ℕ} (items : Alternatives) (j : ℕ) (tail : List ℕ)
     → Laid whole was start place at (flat_map alternative_bytes (drop j items) ++ tail) → j < length items → at + 3 ≤ length place
@@ -158,7 +142,9 @@ laid_same {whole} {was} {place} {same} {rest} {start} {at} e h = subst (λ l. La
 -- the count of the line's cells stands
 pub opened : (line : Line) (items : List Cell) (place : List ℕ) → items ≡ few_items line.cells → length (line_bytes (line_of line)) ≤ length place
     → Laid (line_bytes (line_of line)) place 0 (set place 0 (length items)) 1 (flat_map cell_bytes (line_of line))
-opened line items place same h = begun (line_of line) place (length items) (sym (as_many line items same)) h
+opened line items place same h =
+    let cells = line_of line in
+    subst (λ n. Laid (line_bytes cells) place 0 (set place 0 n) 1 (flat_map cell_bytes cells)) (as_many line items same) (put (laid_none (line_bytes cells) place h))
 
 -- the count of a cell's alternatives stands
 pub entered : {whole was place : List ℕ} {start at : ℕ} (line : Line) (items : List Cell) (i : ℕ) (d : Cell) (alternatives : Alternatives)
@@ -166,7 +152,7 @@ pub entered : {whole was place : List ℕ} {start at : ℕ} (line : Line) (items
     → Laid whole was start (set place at (length alternatives)) (at + 1) (flat_map alternative_bytes alternatives ++ flat_map cell_bytes (drop (i + 1) (line_of line)))
 entered line items i d alternatives same lt own h =
     let e = held line items i d alternatives same lt own in
-    open_cell (line_of line) i alternatives alternatives (length alternatives) h e.below e.is refl refl
+    put (cell_next (line_of line) i alternatives h e.below e.is)
 
 pub cell_room : {whole was place : List ℕ} {start at : ℕ} (line : Line) (items : List Cell) (i : ℕ) (d : Cell) (alternatives : Alternatives)
     → items ≡ few_items line.cells → i < length items → alternatives ≡ cell_of (get_or items i d) → Laid whole was start place at (flat_map cell_bytes (drop i (line_of line)))

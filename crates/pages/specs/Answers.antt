@@ -1,5 +1,5 @@
 -- What the readers answer. Assumes nothing.
-use Rattle.std.specs.Prelude.{◌≡◌, ℕ, ◌+◌, ◌-◌, ◌<◌, cond, List, [], length, Some, None, Ok, Err, Option, Result, nat_lt}
+use Rattle.std.specs.Prelude.{◌≡◌, ℕ, zero, suc, ◌+◌, ◌-◌, ◌<◌, cond, List, [], ◌∷◌, length, Some, None, Ok, Err, Option, Result, nat_lt}
 use Rattle.std.specs.Option.{option_map}
 use Rattle.pages.specs.declared.lines.Line.{Line}
 use Rattle.pages.specs.declared.faults.LineFault.{LineFault}
@@ -63,6 +63,37 @@ abbrev pub Ahead : Result (Option Line) PageFault → PageLines → PageLines �
 Ahead (Ok (Some line)) was is = ahead was ≡ before_lines (line_of line) (ahead is)
 Ahead (Ok None) was is = ahead was ≡ Ok []
 Ahead (Err fault) was is = ahead was ≡ Err fault
+
+-- a line in turn, or the fault that ends the page
+abbrev pub answer_of : Result Line PageFault → Result Cells PageFault
+answer_of (Ok line) = Ok (line_of line)
+answer_of (Err fault) = Err fault
+
+-- a line before the answers behind it; a fault is the last
+abbrev pub answers_on : Result (Cells × ℕ) LineFault → ℕ → (Cells × ℕ → List (Result Cells PageFault)) → List (Result Cells PageFault)
+answers_on (Ok l) number behind = Ok l.0 ∷ behind l
+answers_on (Err f) number behind = Err (page.Line (record { number = number; fault = f })) ∷ []
+
+-- the lines still due from a place, numbered from a number on, one after another up to the first fault
+unfoldable pub answers_due : List ℕ → ℕ → ℕ → ℕ → List (Result Cells PageFault)
+answers_due bytes zero at number = cond (nat_lt at (length bytes)) (Err (page.Excess at) ∷ []) []
+answers_due bytes (suc due) at number = answers_on (read_line bytes at) number (λ l. answers_due bytes due l.1 (number + 1))
+
+-- the answers of a page that is read on from where it stands, and none where it is not
+abbrev pub answers_left : Option PageLines → List (Result Cells PageFault)
+answers_left None = []
+answers_left (Some p) = answers_due p.bytes.now (p.count - p.number) p.place p.number
+
+-- what some answers come to: all the lines, or the first fault
+abbrev pub gathered : List (Result Cells PageFault) → Result Lines PageFault
+gathered [] = Ok []
+gathered (Ok l ∷ more) = before_lines l (gathered more)
+gathered (Err f ∷ more) = Err f
+
+-- the answers of a page that is gone through come to what all its lines to come are read as
+pub record GoesThrough (p : PageLines) (left : Option PageLines) : Type 0 where
+  pub from : left ≡ Some p
+  pub whole : gathered (answers_left left) ≡ ahead p
 
 -- the line found, where one is, as the cells that it stands for
 abbrev pub found_line : Result (Option Line) PageFault → Result (Option Cells) PageFault

@@ -1,5 +1,5 @@
 -- What each fault returns, and in which line and cell it was met. Assumes nothing.
-use Rattle.std.specs.Prelude.{ℕ, Some, None, Ok, Err, Option, Result}
+use Rattle.std.specs.Prelude.{ℕ, Some, None, Option}
 use Rattle.pages.specs.declared.faults.CountFault.{CountFault}
 use Rattle.pages.specs.declared.faults.CountFault.TheVariants as count
 use Rattle.pages.specs.declared.faults.AlternativeFault.{AlternativeFault}
@@ -10,7 +10,6 @@ use Rattle.pages.specs.declared.faults.LineFault.{LineFault}
 use Rattle.pages.specs.declared.faults.LineFault.TheVariants as line
 use Rattle.pages.specs.declared.faults.PageFault.{PageFault}
 use Rattle.pages.specs.declared.faults.PageFault.TheVariants as page
-use Rattle.pages.specs.declared.faults.Numbered.{Numbered}
 use Rattle.pages.specs.declared.faults.Returned.{Returned}
 
 -- the number and the byte place of every fault: 1 Short, 2 Count, 3 Symbol, 4 Twice, 5 Order, 6 Excess
@@ -51,8 +50,3 @@ abbrev pub page_cell : PageFault → Option ℕ
 page_cell (page.Count f) = None
 page_cell (page.Line f) = line_cell f.fault
 page_cell (page.Excess at) = None
-
--- an answer whose fault is given a number
-abbrev pub with_number : {T F : Type 0} → ℕ → Result T F → Result T (Numbered F)
-with_number n (Ok value) = Ok value
-with_number n (Err f) = Err (record { number = n; fault = f })

@@ -7,7 +7,7 @@ ghost use Rattle.pages.specs.declared.faults.LineFault.TheVariants as LineFaults
 ghost use Rattle.pages.specs.declared.faults.PageFault.TheVariants as PageFaults;
 
 // Why a count is refused: it is missing, or out of its range.
-#[derive(Clone, Copy)]
+#[derive(Clone, Copy, Debug, PartialEq, Eq)]
 pub enum CountFault {
     Short(usize),
     Count(usize),
@@ -15,7 +15,7 @@ pub enum CountFault {
 
 // Why an alternative is refused: a byte of it is missing, its symbol is out of range or was there before
 // in its cell, or its penalty is below the one before.
-#[derive(Clone, Copy)]
+#[derive(Clone, Copy, Debug, PartialEq, Eq)]
 pub enum AlternativeFault {
     Short(usize),
     Symbol(usize),
@@ -23,26 +23,26 @@ pub enum AlternativeFault {
     Order(usize),
 }
 
-#[derive(Clone, Copy)]
+#[derive(Clone, Copy, Debug, PartialEq, Eq)]
 pub enum CellFault {
     Count(CountFault),
     Alternative(AlternativeFault),
 }
 
 // A fault with the number of the cell or the line that it was met in.
-#[derive(Clone, Copy)]
+#[derive(Clone, Copy, Debug, PartialEq, Eq)]
 pub struct Numbered<F> {
     pub number: usize,
     pub fault: F,
 }
 
-#[derive(Clone, Copy)]
+#[derive(Clone, Copy, Debug, PartialEq, Eq)]
 pub enum LineFault {
     Count(CountFault),
     Cell(Numbered<CellFault>),
 }
 
-#[derive(Clone, Copy)]
+#[derive(Clone, Copy, Debug, PartialEq, Eq)]
 pub enum PageFault {
     Count(CountFault),
     Line(Numbered<LineFault>),
@@ -50,8 +50,8 @@ pub enum PageFault {
 }
 
 // What a refusal returns: its number, and the place of the byte judged (of a penalty its high byte, of a
-// missing byte the page's length).
-#[derive(Clone, Copy)]
+// missing byte the page's length). The numbers are those of docs/page-file.md; within the code a fault is its enum.
+#[derive(Clone, Copy, Debug, PartialEq, Eq)]
 pub struct Returned {
     pub number: u8,
     pub place: usize,
@@ -66,6 +66,7 @@ impl Returned {
 }
 
 impl CountFault {
+    // Each fault has this method; a `From` into `Returned` would hold the same `match`.
     pub fn returned(&self) -> Returned
         ensures { result ≡ count_returns self.now }
     {
@@ -121,6 +122,7 @@ impl LineFault {
     }
 }
 
+// Each method gives another part of the fault.
 impl PageFault {
     pub fn returned(&self) -> Returned
         ensures { result ≡ page_returns self.now }
@@ -169,6 +171,8 @@ impl PageFault {
     }
 }
 
+// Each fault is put into the one above it, as `?` does. They are written out, since a derived `From` says nothing of
+// what it gives.
 impl From<CountFault> for CellFault {
     ghost from_gives = { λ e r. r ≡ CellFaults.Count e };
 

@@ -13,5 +13,5 @@ pub use faults::{
 };
 pub use line_reader::{read_alternative, read_line_at};
 pub use lines::{Alternative, Cell, Line, MOST_ALTERNATIVES, MOST_CELLS};
-pub use page_reader::{MOST_LINES, PageLines, line_of_page};
+pub use page_reader::{IntoLines, MOST_LINES, PageLines, line_of_page};
 pub use writer::{PlaceFault, write_line};

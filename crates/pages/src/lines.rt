@@ -11,7 +11,7 @@ pub const MOST_CELLS: usize = 24;
 pub const MOST_ALTERNATIVES: usize = 8;
 
 // One alternative of a cell: the symbol, and what it costs to take it.
-#[derive(Clone, Copy)]
+#[derive(Clone, Copy, Debug, PartialEq, Eq)]
 pub struct Alternative {
     pub symbol: u8,
     pub penalty: u16,
@@ -29,7 +29,8 @@ pub struct Line {
 }
 
 impl Cell {
-    // A cell without alternatives, to be filled.
+    // A cell without alternatives, to be filled. What stands in the places that are not in use is no
+    // alternative, so `Alternative` has no `Default`.
     pub(crate) fn empty() -> Cell
         ensures { cell_of result ≡ [] }
     {
@@ -42,7 +43,7 @@ impl Cell {
         }
     }
 
-    // The alternatives, from the first.
+    // The alternatives, from the first. What this and a line's `cells` share is `Few`.
     pub fn alternatives(&self) -> &[Alternative]
         ensures items { result.now ≡ cell_of self.now }
         ensures few { length result.now ≤ 8 }

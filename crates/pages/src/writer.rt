@@ -1,17 +1,17 @@
 // Writes a line as the bytes that it is read from.
-ghost use Rattle.std.specs.Prelude.{◌≡◌, ◌+◌, ◌/◌, ◌%◌, ◌≤◌, length, slice_set};
+ghost use Rattle.std.specs.Prelude.{◌≡◌, ◌+◌, ◌≤◌, ◌++◌, length, take, drop};
 ghost use Rattle.pages.specs.Answers.{line_of};
-ghost use Rattle.pages.specs.Writing.{place_number, line_bytes, Written};
+ghost use Rattle.pages.specs.Writing.{place_number, alternative_bytes, line_bytes, Written};
 ghost use Rattle.pages.specs.Laws.{ReadsBack};
 
 use crate::lines::{Alternative, Line};
 
 // The place for a line is shorter than the line.
-#[derive(Clone, Copy)]
+#[derive(Clone, Copy, Debug, PartialEq, Eq)]
 pub struct PlaceFault;
 
 impl PlaceFault {
-    // The number that is returned for a place too short.
+    // The number that is returned for a place too short, by docs/page-file.md.
     const NUMBER: u8 = 10;
 
     pub fn number(&self) -> u8
@@ -25,21 +25,19 @@ impl PlaceFault {
 fn line_size(line: &Line) -> usize
     ensures { result ≡ length (line_bytes (line_of line.now)) }
 {
-    let mut size = 1;
-    for cell in line.cells() {
-        size += 1 + 3 * cell.alternatives().len();
-    }
-    size
+    let cells = line.cells().iter();
+    1 + cells
+        .map(|cell| 1 + 3 * cell.alternatives().len())
+        .sum::<usize>()
 }
 
 // Writes the three bytes of an alternative.
 fn put_alternative(place: &mut [u8], at: usize, a: Alternative)
     requires { at + 3 ≤ length place.old }
-    ensures { place.new ≡ slice_set (slice_set (slice_set place.old at a.symbol) (at + 1) (a.penalty / 256)) (at + 2) (a.penalty % 256) }
+    ensures { place.new ≡ take at place.old ++ (alternative_bytes a ++ drop (at + 3) place.old) }
 {
-    place[at] = a.symbol;
-    place[at + 1] = (a.penalty / 256) as u8;
-    place[at + 2] = (a.penalty % 256) as u8;
+    let [high, low] = a.penalty.to_be_bytes();
+    place[at..at + 3].copy_from_slice(&[a.symbol, high, low]);
 }
 
 // Writes the bytes of a line from the place's start, and answers how many they are.
@@ -52,6 +50,7 @@ pub fn write_line(line: &Line, place: &mut [u8]) -> Result<usize, PlaceFault>
     }
     let cells = line.cells();
     place[0] = cells.len() as u8;
+    // No loop counter: it is where the next byte stands, and moves by 1 and by 3.
     let mut at = 1;
     for cell in cells {
         let alternatives = cell.alternatives();

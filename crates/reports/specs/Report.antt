@@ -1,5 +1,5 @@
 -- What is printed of a page. Assumes nothing.
-use Rattle.std.specs.Prelude.{ℕ, ◌+◌, List, [], ◌∷◌, ◌++◌, length, Ok, Err, codes, decimal, Result}
+use Rattle.std.specs.Prelude.{ℕ, ◌+◌, List, [], ◌∷◌, ◌++◌, length, Ok, Err, codes, decimal, sum_by, Result}
 use Rattle.pages.specs.declared.faults.PageFault.{PageFault}
 use Rattle.pages.specs.Shape.{Cells, Lines}
 use Rattle.pages.specs.Faults.{page_returns}
@@ -8,8 +8,7 @@ use Rattle.reports.specs.Words.{page_words}
 
 -- how many alternatives a line has in all
 abbrev pub alternatives_in : Cells → ℕ
-alternatives_in [] = 0
-alternatives_in (c ∷ more) = length c + alternatives_in more
+alternatives_in cells = sum_by length cells
 
 -- a row for a line: its number, its cells, its alternatives in all
 abbrev pub line_row : ℕ → Cells → List ℕ

@@ -1,14 +1,11 @@
-use Rattle.std.proofs.Common.{◌+◌, drop, arith}
+use Rattle.std.proofs.Common.{◌+◌, get_or, drop, arith}
 use Rattle.std.specs.List.{flat_map}
 use Rattle.pages.specs.Answers.{line_of}
-use Rattle.pages.specs.Writing.{cell_bytes}
-use Rattle.pages.proofs.Writes.{as_many, laid_from, laid_through, put_three, alternative_next, cell_end, line_end, laid_all, next_room, laid_same, opened, entered, cell_room}
+use Rattle.pages.specs.Writing.{alternative_bytes, cell_bytes}
+use Rattle.pages.proofs.Writes.{as_many, laid_from, laid_through, put_part, alternative_next, cell_end, line_end, laid_all, next_room, laid_same, opened, entered, cell_room}
 use Rattle.pages.proofs.Shape.{line_parts}
 use Rattle.pages.proofs.Round.{reads_back}
 use Rattle.pages.proofs.writer.write_line.Goals as goal
-
-pub overflow_cast-place : goal.overflow_cast-place
-overflow_cast-place c = omega (arith, c.cells-cells.ensures.few)
 
 pub loop-cell-init : goal.loop-cell-init
 loop-cell-init c =
@@ -18,9 +15,6 @@ pub bounds-place-at : goal.bounds-place-at
 bounds-place-at c =
     cell_room c.args.line.now c.cells-cells.result.now c.loop-cell.cell-index _ c.alternatives-alternatives.result.now
     c.cells-cells.ensures.items c.loop-cell-test.true c.alternatives-alternatives.ensures.items c.loop-cell.invariant
-
-pub overflow_cast-place-in-loop-cell : goal.overflow_cast-place-in-loop-cell
-overflow_cast-place-in-loop-cell c = omega (arith, c.alternatives-alternatives.ensures.few)
 
 pub overflow_add-at : goal.overflow_add-at
 overflow_add-at c =
@@ -44,7 +38,8 @@ overflow_add-at-in-loop-a c = omega (arith, next_room c.alternatives-alternative
 pub loop-a-preserved : goal.loop-a-preserved
 loop-a-preserved c =
     laid_same c.put_alternative.ensures
-    (put_three (alternative_next c.alternatives-alternatives.result.now c.loop-a.a-index (flat_map cell_bytes (drop (c.loop-cell.cell-index + 1) (line_of c.args.line.now)))
+    (put_part (alternative_bytes (get_or c.alternatives-alternatives.result.now c.loop-a.a-index (record { symbol = 0; penalty = 0 })))
+    (alternative_next c.alternatives-alternatives.result.now c.loop-a.a-index (flat_map cell_bytes (drop (c.loop-cell.cell-index + 1) (line_of c.args.line.now)))
     (record { symbol = 0; penalty = 0 }) c.loop-a.invariant c.loop-a-test.true))
 
 pub loop-cell-preserved : goal.loop-cell-preserved

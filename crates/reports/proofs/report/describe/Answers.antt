@@ -1,15 +1,13 @@
-use Rattle.std.proofs.Common.{Ok, ◌∙◌, subst}
-use Rattle.pages.specs.Answers.{NextLine, Ahead}
+use Rattle.std.proofs.Common.{rules, ap, ◌∷◌, ◌∙◌}
+use Rattle.pages.specs.Answers.{answer_of, answers_left}
 use Rattle.reports.proofs.Rows.{rowed_none, rowed_more}
 use Rattle.reports.proofs.report.describe.Goals as goal
 
-pub loop-rows-init : goal.loop-rows-init
-loop-rows-init c = rowed_none c.args.page.now c.in_ok-lines.lines _ c.in_ok-lines.ensures c.new-rows.ensures.bytes
+pub loop-line-init : goal.loop-line-init
+loop-line-init c =
+    rowed_none c.args.page.now c.in_ok-line-items.line-items _ c.into_iter-line-iterator.ensures.into_iter_gives c.in_ok-line-items.ensures c.new-rows.ensures.bytes
 
-pub loop-rows-preserved : goal.loop-rows-preserved
-loop-rows-preserved c =
-    rowed_more c.loop-rows.invariant c.in-Some.line c.next_line.new.self c.as_str.result.now _
-    (subst (λ o. NextLine (Ok o) c.loop-rows.lines c.next_line.new.self) c.in-Some.is c.in_ok-line.ensures.answer)
-    (subst (λ o. Ahead (Ok o) c.loop-rows.lines c.next_line.new.self) c.in-Some.is c.in_ok-line.ensures.ahead)
-    (c.as_str.ensures.value ∙ c.in_ok-row.ensures)
-    c.in_ok-push_str.ensures.bytes
+pub loop-line-preserved : goal.loop-line-preserved
+loop-line-preserved c =
+    let more = answers_left c.next.new.self.left in
+    rowed_more c.loop-line.invariant c.in_ok-line.field-0 more _ (c.in-Some.ensures.steps ∙ ap (λ a. answer_of a ∷ more) c.in_ok-line.was) (search rules)
