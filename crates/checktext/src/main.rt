@@ -3,23 +3,19 @@
 // the northeast corner of the sheet, each a position text.
 #![tactic(auto)]
 
-use anyhow::anyhow;
+use anyhow::bail;
 use descriptions::{line, read_sheet};
 use grammars::sheet::Sheet;
 use std::env;
 
 fn sheet_from_arguments(rt: &HostRuntime) -> anyhow::Result<Sheet> {
-    let mut words = env::args(rt)?;
-    let _program = words.next();
+    let mut words = env::args(rt)?.skip(1);
     let (Some(southwest), Some(northeast), None) = (words.next(), words.next(), words.next()) else {
-        return Err(anyhow!(
+        bail!(
             "give the southwest and the northeast corner of the sheet, as 4900000N00600000W 5100000N00200000W"
-        ));
+        );
     };
-    match read_sheet(southwest.as_bytes(), northeast.as_bytes()) {
-        Ok(sheet) => Ok(sheet),
-        Err(fault) => Err(anyhow!("{}", fault.explanation())),
-    }
+    Ok(read_sheet(southwest.as_bytes(), northeast.as_bytes())?)
 }
 
 fn run(rt: &HostRuntime) -> anyhow::Result<()> {

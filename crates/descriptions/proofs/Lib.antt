@@ -1,2 +1,2 @@
-pub mod Phrases
+pub mod Padded
 pub mod Truths

@@ -1,24 +1,21 @@
 -- What is said of a text is true of it.
-use Rattle.std.proofs.Common.{◌≡◌, ℕ, Bool, true, false, cond, ◌&&◌, eqb, leb, List, length, take, drop, ℤ, Ok, Err, Decides, Result, sym, ap, ◌∙◌, subst, true≢false, arith, length-take}
+use Rattle.std.proofs.Common.{◌≡◌, ℕ, true, false, cond, ◌&&◌, eqb, leb, List, length, take, drop, ℤ, Ok, Err, Result, sym, ap, ◌∙◌, subst, arith, length-take}
+use Rattle.std.proofs.lemmas.Bool.Decides.{not_from_Decides}
 use Rattle.std.proofs.lemmas.Bool.{and_parts, and_from, cond_both, eqb-true, le-leb}
 use Rattle.positions.specs.declared.Refusal.{Refusal}
 use Rattle.positions.specs.declared.angles.Axis.TheVariants as axes
-use Rattle.positions.specs.Angles.{is_angle, Written}
+use Rattle.positions.specs.Angles.{is_angle}
 use Rattle.positions.specs.Positions.{is_position, pair_of, reading, Says}
 use Rattle.positions.proofs.Round.{angle_written, pair_back, Said, said}
 use Rattle.grammars.specs.declared.sheet.Sheet.{Sheet}
-use Rattle.grammars.specs.Calendar.{Dated}
 use Rattle.grammars.specs.Dates.{admits_date}
 use Rattle.grammars.specs.Grammars.{split_at}
 use Rattle.grammars.specs.Sheets.{holds, on_sheet, admits_sheet}
 use Rattle.grammars.proofs.Calendar.{admitted_dated}
 use Rattle.grammars.specs.SheetsLemmas.{read_ok, covers}
+use Rattle.descriptions.specs.declared.Kind.{Kind}
 use Rattle.descriptions.specs.declared.Kind.TheVariants.{Date, Latitude, Longitude, OnSheet, OffSheet, Entry, Other}
 use Rattle.descriptions.specs.Kinds.{charted, entry, kind_at, kind_read, kind_of, lies_on, Entered, TrueOf}
-
--- what a test decides does not hold where the test fails
-no : (b : Bool) (P : Type 0) → Decides b P → b ≡ false → P → ⊥
-no b P d h p = true≢false (sym (d.1 p) ∙ h)
 
 module _ (t : Sheet) where
   -- a position is on the sheet by the combined grammar where its pair lies on it
@@ -58,14 +55,14 @@ module _ (t : Sheet) (s : List ℕ) where
   true_at d y x (Err f) e =
       cond_both ((entry t).admits s) Entry Other (TrueOf t s) (entry_true t s)
       (λ h. (
-        no (admits_date s) (Dated s) (admitted_dated s) d,
-        no (is_angle axes.Latitude s) (Written axes.Latitude s) (angle_written axes.Latitude s) y,
-        no (is_angle axes.Longitude s) (Written axes.Longitude s) (angle_written axes.Longitude s) x,
+        not_from_Decides (admits_date s) (admitted_dated s) d,
+        not_from_Decides (is_angle axes.Latitude s) (angle_written axes.Latitude s) y,
+        not_from_Decides (is_angle axes.Longitude s) (angle_written axes.Longitude s) x,
         subst (Said s) e (said s),
-        no ((entry t).admits s) (Entered t s) (entry_true t s, entry_from t s) h,
+        not_from_Decides ((entry t).admits s) (entry_true t s, entry_from t s) h,
       ))
 
-  pub true_of : TrueOf t s (kind_of t s)
+  true_of : TrueOf t s (kind_of t s)
   true_of =
       cond_both (admits_date s) Date (cond (is_angle axes.Latitude s) Latitude (cond (is_angle axes.Longitude s) Longitude (kind_read t s))) (TrueOf t s)
       (admitted_dated s).0
@@ -76,3 +73,6 @@ module _ (t : Sheet) (s : List ℕ) where
       cond_both (is_angle axes.Longitude s) Longitude (kind_read t s) (TrueOf t s)
       (angle_written axes.Longitude s).0
       (λ x. true_at d y x (reading s) (λ i. reading s))))
+
+  pub true_as : (k : Kind) → k ≡ kind_of t s → TrueOf t s k
+  true_as k is = subst (TrueOf t s) (sym is) true_of

@@ -1,8 +1,8 @@
 -- The laws of latitude and longitude, once for both axes.
-use Rattle.std.specs.Prelude.{◌≡◌, ℕ, ◌+◌, ◌-◌, ◌*◌, ◌<◌, ◌≤◌, min, true, ◌&&◌, leb, List, [], ◌∷◌, length, take, nat_le, slice_index, refl}
+use Rattle.std.specs.Prelude.{◌≡◌, ℕ, ◌+◌, ◌-◌, ◌*◌, ◌<◌, ◌≤◌, true, leb, List, [], ◌∷◌, length, take, nat_le, slice_index, refl}
 use Rattle.std.proofs.Common.{sym, ap, ◌∙◌, ⊎_elim, arith, length-take}
 use Rattle.std.proofs.lemmas.List.{take_all, take-take, get_or-take, drop_more}
-use Rattle.std.proofs.lemmas.Bool.{cases_lt, le-leb, leb-true, and_parts, and_from}
+use Rattle.std.proofs.lemmas.Bool.{cases_lt, le-leb}
 use Rattle.positions.specs.declared.angles.Axis.{Axis}
 use Rattle.positions.specs.Numerals.{digits, number_of}
 use Rattle.positions.specs.Angles.{figures_of, most_of, width_of, degrees_of, minutes_of, angle_of, is_angle}
@@ -10,38 +10,19 @@ use Rattle.positions.proofs.Figures.{digits_take}
 use Rattle.positions.proofs.Round.{near, parts, size_is}
 use Rattle.positions.specs.declared.angles.Axis.TheVariants.{Latitude, Longitude}
 use Rattle.grammars.specs.Grammars.{Lawful}
-use Rattle.grammars.specs.Angles.{opening_digits, opening_degrees, opening_minutes, opening_whole, allows_angle, angle_sets}
-use Rattle.grammars.specs.Openings.{from_holds, from_gives}
+use Rattle.grammars.specs.Angles.{opening_digits, allows_angle, angle_sets}
+use Rattle.grammars.specs.Openings.{Judged, opened, closed}
 
 module _ (a : Axis) where
   -- the parts of an opening that is allowed
-  pub record Open (s : List ℕ) : Type 0 where
-    pub short : length s ≤ width_of a
-    pub digital : opening_digits a s ≡ true
-    pub by_degrees : figures_of a ≤ length s → nat_le (degrees_of a s) (most_of a) ≡ true
-    pub by_minutes : figures_of a + 1 ≤ length s → nat_le (slice_index s (figures_of a)) 53 ≡ true
-    pub whole : width_of a ≤ length s → is_angle a s ≡ true
+  abbrev Open : List ℕ → Type 0
+  Open s = Judged (width_of a) (figures_of a) (figures_of a + 1) s (opening_digits a s) (nat_le (degrees_of a s) (most_of a)) (nat_le (slice_index s (figures_of a)) 53) (is_angle a s)
 
-  opened : (s : List ℕ) → allows_angle a s ≡ true → Open s
-  opened s h =
-      let p = and_parts (nat_le (length s) (width_of a)) (opening_digits a s && (opening_degrees a s && (opening_minutes a s && opening_whole a s))) h in
-      let q = and_parts (opening_digits a s) (opening_degrees a s && (opening_minutes a s && opening_whole a s)) p.1 in
-      let r = and_parts (opening_degrees a s) (opening_minutes a s && opening_whole a s) q.1 in
-      let t = and_parts (opening_minutes a s) (opening_whole a s) r.1 in
-      record {
-        short = leb-true (length s) (width_of a) p.0;
-        digital = q.0;
-        by_degrees = from_gives (figures_of a) s (nat_le (degrees_of a s) (most_of a)) r.0;
-        by_minutes = from_gives (figures_of a + 1) s (nat_le (slice_index s (figures_of a)) 53) t.0;
-        whole = from_gives (width_of a) s (is_angle a s) t.1;
-      }
+  open_parts : (s : List ℕ) → allows_angle a s ≡ true → Open s
+  open_parts s = opened (width_of a) (figures_of a) (figures_of a + 1) s (opening_digits a s) (nat_le (degrees_of a s) (most_of a)) (nat_le (slice_index s (figures_of a)) 53) (is_angle a s)
 
-  closed : (s : List ℕ) → Open s → allows_angle a s ≡ true
-  closed s p =
-      and_from (nat_le (length s) (width_of a)) (opening_digits a s && (opening_degrees a s && (opening_minutes a s && opening_whole a s))) (le-leb (length s) (width_of a) p.short)
-      (and_from (opening_digits a s) (opening_degrees a s && (opening_minutes a s && opening_whole a s)) p.digital
-      (and_from (opening_degrees a s) (opening_minutes a s && opening_whole a s) (from_holds (figures_of a) s (nat_le (degrees_of a s) (most_of a)) p.by_degrees)
-      (and_from (opening_minutes a s) (opening_whole a s) (from_holds (figures_of a + 1) s (nat_le (slice_index s (figures_of a)) 53) p.by_minutes) (from_holds (width_of a) s (is_angle a s) p.whole))))
+  is_open : (s : List ℕ) → Open s → allows_angle a s ≡ true
+  is_open s = closed (width_of a) (figures_of a) (figures_of a + 1) s (opening_digits a s) (nat_le (degrees_of a s) (most_of a)) (nat_le (slice_index s (figures_of a)) 53) (is_angle a s)
 
   digits_shorter : (m n : ℕ) (s : List ℕ) → digits (take m s) ≡ true → digits (take m (take n s)) ≡ true
   digits_shorter m n s h =
@@ -53,15 +34,15 @@ module _ (a : Axis) where
 
   pub angle_shorter : (s : List ℕ) (n : ℕ) → allows_angle a s ≡ true → allows_angle a (take n s) ≡ true
   angle_shorter s n h =
-      let p = opened s h in
+      let p = open_parts s h in
       let k = figures_of a in
       let len = length-take n s in
-      closed (take n s) (record {
+      is_open (take n s) (record {
         short = omega (arith, len, p.short);
         digital = digits_shorter (k + 5) n s p.digital;
-        by_degrees = λ l. ap (λ t. leb (number_of t) (most_of a)) (take-take k n s (omega (arith, len))) ∙ p.by_degrees (omega (arith, len));
-        by_minutes = λ l. ap (λ c. leb c 53) (get_or-take n s k 0 (omega (arith, len))) ∙ p.by_minutes (omega (arith, len));
-        whole = λ l. ap (is_angle a) (take_all n s (omega (arith, len, p.short))) ∙ p.whole (omega (arith, len));
+        by_one = λ l. ap (λ t. leb (number_of t) (most_of a)) (take-take k n s (omega (arith, len))) ∙ p.by_one (omega (arith, len));
+        by_other = λ l. ap (λ c. leb c 53) (get_or-take n s k 0 (omega (arith, len))) ∙ p.by_other (omega (arith, len));
+        by_whole = λ l. ap (is_angle a) (take_all n s (omega (arith, len, p.short))) ∙ p.by_whole (omega (arith, len));
       })
 
   -- the minutes by their two figures
@@ -78,21 +59,13 @@ module _ (a : Axis) where
       let most = near a (angle_of a s) p.ranged in
       let size = size_is a s in
       let tens = minutes_are s (omega arith) in
-      closed s (record {
+      is_open s (record {
         short = omega arith;
         digital = p.digital;
-        by_degrees = λ _. le-leb (degrees_of a s) (most_of a) (omega arith);
-        by_minutes = λ _. le-leb (slice_index s (figures_of a)) 53 (omega arith);
-        whole = λ _. h;
+        by_one = λ _. le-leb (degrees_of a s) (most_of a) (omega arith);
+        by_other = λ _. le-leb (slice_index s (figures_of a)) 53 (omega arith);
+        by_whole = λ _. h;
       })
-
--- the beginning as far as the text goes
-pub take_most : (m : ℕ) (s : List ℕ) → take (min (length s) m) s ≡ take m s
-take_most m s =
-    ⊎_elim
-    (λ (lt : length s < m). let le : length s ≤ m = omega arith in take_all (min (length s) m) s (omega arith) ∙ sym (take_all m s le))
-    (λ (le : m ≤ length s). ap (λ n. take n s) (omega arith))
-    (cases_lt (length s) m)
 
 angle_empty : (a : Axis) → allows_angle a [] ≡ true
 angle_empty Latitude = refl

@@ -6,8 +6,8 @@ use Rattle.std.proofs.lemmas.List.{take_all}
 use Rattle.std.proofs.lemmas.Bool.{cond_both, le-leb, leb-true, eqb-true, and_parts, and_from}
 use Rattle.positions.specs.Numerals.{within, digits, number_of}
 use Rattle.positions.proofs.Figures.{digits_take, field_take}
-use Rattle.grammars.specs.Openings.{from_holds, from_gives}
-use Rattle.grammars.specs.Dates.{day_of, month_of, year_of, months, longest, leap, length_of, is_day, admits_date, can_fall, opening_day, opening_month, opening_whole, allows_date}
+use Rattle.grammars.specs.Openings.{Judged, opened, closed}
+use Rattle.grammars.specs.Dates.{day_of, month_of, year_of, months, longest, leap, length_of, is_day, admits_date, can_fall, allows_date}
 
 pub within_gives : (low high n : ℕ) → within low high n ≡ true → (low ≤ n) × (n ≤ high)
 within_gives low high n h = let p = and_parts (nat_le low n) (nat_le n high) h in (leb-true low n p.0, leb-true n high p.1)
@@ -31,33 +31,14 @@ length_of_most m y =
     (λ e. omega arith)
 
 -- the parts of an opening that is allowed
-pub record Parts (s : List ℕ) : Type 0 where
-  pub short : length s ≤ 8
-  pub digital : digits s ≡ true
-  pub by_day : 2 ≤ length s → within 1 31 (day_of s) ≡ true
-  pub by_month : 4 ≤ length s → can_fall (day_of s) (month_of s) ≡ true
-  pub whole : 8 ≤ length s → admits_date s ≡ true
+abbrev pub Parts : List ℕ → Type 0
+Parts s = Judged 8 2 4 s (digits s) (within 1 31 (day_of s)) (can_fall (day_of s) (month_of s)) (admits_date s)
 
 parts : (s : List ℕ) → allows_date s ≡ true → Parts s
-parts s h =
-    let p = and_parts (nat_le (length s) 8) (digits s && (opening_day s && (opening_month s && opening_whole s))) h in
-    let q = and_parts (digits s) (opening_day s && (opening_month s && opening_whole s)) p.1 in
-    let r = and_parts (opening_day s) (opening_month s && opening_whole s) q.1 in
-    let t = and_parts (opening_month s) (opening_whole s) r.1 in
-    record {
-      short = leb-true (length s) 8 p.0;
-      digital = q.0;
-      by_day = from_gives 2 s (within 1 31 (day_of s)) r.0;
-      by_month = from_gives 4 s (can_fall (day_of s) (month_of s)) t.0;
-      whole = from_gives 8 s (admits_date s) t.1;
-    }
+parts s = opened 8 2 4 s (digits s) (within 1 31 (day_of s)) (can_fall (day_of s) (month_of s)) (admits_date s)
 
 joined : (s : List ℕ) → Parts s → allows_date s ≡ true
-joined s p =
-    and_from (nat_le (length s) 8) (digits s && (opening_day s && (opening_month s && opening_whole s))) (le-leb (length s) 8 p.short)
-    (and_from (digits s) (opening_day s && (opening_month s && opening_whole s)) p.digital
-    (and_from (opening_day s) (opening_month s && opening_whole s) (from_holds 2 s (within 1 31 (day_of s)) p.by_day)
-    (and_from (opening_month s) (opening_whole s) (from_holds 4 s (can_fall (day_of s) (month_of s)) p.by_month) (from_holds 8 s (admits_date s) p.whole))))
+joined s = closed 8 2 4 s (digits s) (within 1 31 (day_of s)) (can_fall (day_of s) (month_of s)) (admits_date s)
 
 pub date_shorter : (s : List ℕ) (n : ℕ) → allows_date s ≡ true → allows_date (take n s) ≡ true
 date_shorter s n h =
@@ -66,9 +47,9 @@ date_shorter s n h =
     joined (take n s) (record {
       short = omega (arith, len, p.short);
       digital = digits_take n s p.digital;
-      by_day = λ l. ap (λ t. within 1 31 (number_of t)) (field_take n 0 2 s (omega (arith, len))) ∙ p.by_day (omega (arith, len));
-      by_month = λ l. (λ k. can_fall (number_of (field_take n 0 2 s (omega (arith, len)) k)) (number_of (field_take n 2 2 s (omega (arith, len)) k))) ∙ p.by_month (omega (arith, len));
-      whole = λ l. ap admits_date (take_all n s (omega (arith, len, p.short))) ∙ p.whole (omega (arith, len));
+      by_one = λ l. ap (λ t. within 1 31 (number_of t)) (field_take n 0 2 s (omega (arith, len))) ∙ p.by_one (omega (arith, len));
+      by_other = λ l. (λ k. can_fall (number_of (field_take n 0 2 s (omega (arith, len)) k)) (number_of (field_take n 2 2 s (omega (arith, len)) k))) ∙ p.by_other (omega (arith, len));
+      by_whole = λ l. ap admits_date (take_all n s (omega (arith, len, p.short))) ∙ p.by_whole (omega (arith, len));
     })
 
 pub admitted_allowed : (s : List ℕ) → admits_date s ≡ true → allows_date s ≡ true
@@ -85,7 +66,7 @@ admitted_allowed s h =
     joined s (record {
       short = omega arith;
       digital = q.0;
-      by_day = λ _. within_holds 1 31 (day_of s) d.0 (omega (arith, d.1));
-      by_month = λ _. and_from (within 1 12 (month_of s)) (within 1 (longest (month_of s)) (day_of s)) t.0 (within_holds 1 (longest (month_of s)) (day_of s) d.0 (omega (arith, d.1)));
-      whole = λ _. h;
+      by_one = λ _. within_holds 1 31 (day_of s) d.0 (omega (arith, d.1));
+      by_other = λ _. and_from (within 1 12 (month_of s)) (within 1 (longest (month_of s)) (day_of s)) t.0 (within_holds 1 (longest (month_of s)) (day_of s) d.0 (omega (arith, d.1)));
+      by_whole = λ _. h;
     })

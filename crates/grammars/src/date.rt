@@ -1,5 +1,5 @@
 // Dates, as eight digits DDMMYYYY, of the Gregorian calendar from 1900 to 2099.
-ghost use Rattle.std.specs.Prelude.{◌≡◌, ◌≤◌, true, ◌&&◌, length, Decides, refl};
+ghost use Rattle.std.specs.Prelude.{◌≡◌, ◌≤◌, true, length, Decides, refl};
 ghost use Rattle.grammars.specs.Dates.{day_of, month_of, year_of, longest, leap, length_of, is_day, can_fall, admits_date, opening_day, opening_month, opening_whole, date_sets};
 ghost use Rattle.grammars.specs.Calendar.{Dated, Calendar};
 ghost use Rattle.positions.specs.Numerals.{within};
@@ -8,12 +8,13 @@ ghost use Rattle.grammars.specs.Days.{date_shorter, admitted_allowed};
 use crate::Grammar;
 use positions::numerals::{all_digits, number};
 
-// How long each month can be.
+// How long each month can be: the calendar's own table.
 const MONTHS: [u8; 12] = [31, 29, 31, 30, 31, 30, 31, 31, 30, 31, 30, 31];
 
 #[derive(Clone, Copy)]
 pub struct Date;
 
+// Day, month and year are three calls of `number` and no struct, since an opening may have a day alone, or no year yet.
 fn day(text: &[u8]) -> u32
     requires { 2 ≤ length text.now }
     ensures { result ≡ day_of text.now }
@@ -35,12 +36,7 @@ fn year(text: &[u8]) -> u32
     number(&text[4..8])
 }
 
-fn is_within(n: u32, low: u32, high: u32) -> bool
-    ensures { result ≡ within low high n }
-{
-    low <= n && n <= high
-}
-
+#[tactic(auto, unfolding(crate::specs::Dates::longest))]
 fn longest_of(month: u32) -> u32
     requires { within 1 12 month ≡ true }
     ensures { result ≡ longest month }
@@ -68,16 +64,16 @@ fn length_in(month: u32, year: u32) -> u32
 fn is_day(day: u32, month: u32, year: u32) -> bool
     ensures { result ≡ is_day day month year }
 {
-    is_within(year, 1900, 2099)
-        && is_within(month, 1, 12)
-        && is_within(day, 1, length_in(month, year))
+    (1900..=2099).contains(&year)
+        && (1..=12).contains(&month)
+        && (1..=length_in(month, year)).contains(&day)
 }
 
 // Whether the month has such a day in some year.
 fn is_possible(day: u32, month: u32) -> bool
     ensures { result ≡ can_fall day month }
 {
-    is_within(month, 1, 12) && is_within(day, 1, longest_of(month))
+    (1..=12).contains(&month) && (1..=longest_of(month)).contains(&day)
 }
 
 fn is_date(text: &[u8]) -> bool
@@ -89,7 +85,7 @@ fn is_date(text: &[u8]) -> bool
 fn day_opens(opening: &[u8]) -> bool
     ensures { result ≡ opening_day opening.now }
 {
-    opening.len() < 2 || is_within(day(opening), 1, 31)
+    opening.len() < 2 || (1..=31).contains(&day(opening))
 }
 
 fn month_opens(opening: &[u8]) -> bool
@@ -102,12 +98,6 @@ fn whole_opens(opening: &[u8]) -> bool
     ensures { result ≡ opening_whole opening.now }
 {
     opening.len() < 8 || is_date(opening)
-}
-
-fn parts_open(opening: &[u8]) -> bool
-    ensures { result ≡ (opening_day opening.now && (opening_month opening.now && opening_whole opening.now)) }
-{
-    day_opens(opening) && month_opens(opening) && whole_opens(opening)
 }
 
 impl Grammar for Date {
@@ -130,6 +120,10 @@ impl Grammar for Date {
     }
 
     fn is_allowed(&self, opening: &[u8]) -> bool {
-        opening.len() <= 8 && all_digits(opening) && parts_open(opening)
+        opening.len() <= 8
+            && all_digits(opening)
+            && day_opens(opening)
+            && month_opens(opening)
+            && whole_opens(opening)
     }
 }

@@ -10,10 +10,10 @@ pub mod angle;
 pub mod date;
 pub mod sheet;
 
-// Why a grammar's table is refused: it fails its check.
-#[derive(Clone, Copy)]
+// Why a grammar's table is refused: it fails its check. The refusal has the number that is returned for it.
+#[derive(Clone, Copy, Debug, PartialEq, Eq)]
 pub enum Refusal {
-    Table,
+    Table = 12,
 }
 
 impl Refusal {
@@ -21,20 +21,15 @@ impl Refusal {
     pub fn number(self) -> u8
         ensures { result ≡ refusal self }
     {
-        match self {
-            Refusal::Table => 12,
-        }
+        self as u8
     }
 }
 
-// What the check of a table returns: 0 where it holds.
+// What the check of a table returns, in the numbers of docs/grammars.md: 0 where it holds.
 pub fn check_number(answer: Result<(), Refusal>) -> u8
     ensures { result ≡ check_returns answer }
 {
-    match answer {
-        Ok(()) => 0,
-        Err(refusal) => refusal.number(),
-    }
+    answer.err().map_or(0, Refusal::number)
 }
 
 pub trait Grammar {
@@ -105,11 +100,9 @@ impl<P: Grammar, Q: Grammar> Grammar for Then<P, Q> {
         } };
 
     fn is_admitted(&self, text: &[u8]) -> bool {
-        let cut = usize::from(self.cut);
-        if text.len() < cut {
+        let Some((head, tail)) = text.split_at_checked(usize::from(self.cut)) else {
             return false;
-        }
-        let (head, tail) = text.split_at(cut);
+        };
         self.head.is_admitted(head) && self.tail.is_admitted(tail)
     }
 

@@ -1,7 +1,7 @@
 // A sheet of the chart: the positions inside its limits or on them.
 ghost use Rattle.std.specs.Prelude.{◌≡◌, MatchResult};
 ghost use Rattle.grammars.specs.Grammars.{Shut};
-ghost use Rattle.grammars.specs.Sheets.{between, holds, on_sheet, checking, admits_sheet, sheet_sets, Covers};
+ghost use Rattle.grammars.specs.Sheets.{holds, on_sheet, checking, admits_sheet, sheet_sets, Covers};
 ghost use Rattle.grammars.specs.SheetsLemmas.{sheet_empty, sheet_shorter, sheet_allowed};
 
 use crate::{Grammar, Refusal};
@@ -16,14 +16,8 @@ pub struct Sheet {
     pub east: i32,
 }
 
-fn is_between(low: i32, high: i32, angle: i32) -> bool
-    ensures { result ≡ between low high angle }
-{
-    low <= angle && angle <= high
-}
-
 impl Sheet {
-    // The table holds: the limits are in order and in range.
+    // The table holds: the limits are in order and in range. A table that fails is a sheet too, so each call asks.
     fn is_sound(&self) -> bool
         ensures { result ≡ holds self.now }
     {
@@ -37,6 +31,7 @@ impl Sheet {
         ensures answer { result ≡ checking self.now }
         ensures sets { MatchResult result (λ _. Covers self.now) (λ _. Shut (sheet_sets self.now)) }
     {
+        // An `if`, whose two ways the two halves of the clause `sets` are shown for.
         if self.is_sound() {
             Ok(())
         } else {
@@ -47,19 +42,13 @@ impl Sheet {
     fn has_inside(&self, pair: (i32, i32)) -> bool
         ensures { result ≡ on_sheet self.now pair }
     {
-        is_between(self.south, self.north, pair.0) && is_between(self.west, self.east, pair.1)
+        (self.south..=self.north).contains(&pair.0) && (self.west..=self.east).contains(&pair.1)
     }
-}
 
-fn is_on(sheet: &Sheet, text: &[u8]) -> bool
-    ensures { result ≡ admits_sheet sheet.now text.now }
-{
-    if !sheet.is_sound() {
-        return false;
-    }
-    match read_position(text) {
-        Ok(pair) => sheet.has_inside(pair),
-        Err(_) => false,
+    fn admits(&self, text: &[u8]) -> bool
+        ensures { result ≡ admits_sheet self.now text.now }
+    {
+        self.is_sound() && read_position(text).is_ok_and(|pair| self.has_inside(pair))
     }
 }
 
@@ -74,12 +63,12 @@ impl Grammar for Sheet {
         } };
 
     fn is_admitted(&self, text: &[u8]) -> bool {
-        is_on(self, text)
+        self.admits(text)
     }
 
     fn is_allowed(&self, opening: &[u8]) -> bool {
         if self.is_sound() {
-            opening.len() < 17 || opening.len() == 17 && is_on(self, opening)
+            opening.len() < 17 || opening.len() == 17 && self.admits(opening)
         } else {
             opening.is_empty()
         }

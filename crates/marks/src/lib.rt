@@ -1,5 +1,6 @@
 // Marks: a position is proposed, confirmed or rejected, and only a confirmed one is plotted.
-// A proposal and a confirmed mark are used up by their calls, and cannot be copied or dropped.
+// A proposal and a confirmed mark are used up by their calls, and cannot be copied or dropped. They are two types, so
+// that the compiler turns a proposal away where a confirmed mark is wanted.
 #![tactic(auto)]
 
 ghost use Rattle.std.specs.Prelude.{◌≡◌, ◌++◌, length, take, drop, is_ok, IfOk, if◌then◌else◌};
@@ -30,6 +31,7 @@ pub fn propose(text: &[u8]) -> Result<Proposal, Refusal>
 }
 
 impl Proposal {
+    // Takes the proposal apart by a pattern, since it cannot be dropped, for the two calls that end it.
     fn into_pair(self) -> (i32, i32)
         ensures { result ≡ (self.latitude, self.longitude) }
     {
@@ -61,6 +63,7 @@ impl Proposal {
 impl Confirmed {
     // Writes eight bytes, from which the two numbers can be read again. Where the place is too short it
     // hands the mark back.
+    #[tactic(auto, using(crate::proofs::Words::pair_back))]
     pub fn plot(self, place: &mut [u8]) -> Result<usize, (Refusal, Confirmed)>
         ensures answer { result ≡ plotting self (length place.old) }
         ensures written { place.new ≡ (if is_ok result then mark_bytes self ++ drop 8 place.old else place.old) }

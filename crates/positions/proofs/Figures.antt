@@ -1,7 +1,11 @@
 -- Numerals of a fixed width: what is written reads as the number, and what is read is written again.
 use Rattle.std.proofs.Common.{◌≡◌, ℕ, zero, suc, ◌+◌, ◌-◌, ◌*◌, ◌/◌, ◌%◌, ◌^◌, ◌<◌, ◌≤◌, min, true, leb, List, [], ◌∷◌, ◌++◌, length, get_or, take, drop, set, sym, refl, ap, ◌∙◌, ⊎_elim, pow-suc, add-one, arith}
+use Rattle.std.specs.List.{fold}
+use Rattle.std.proofs.Math.Nat.{mul_assoc, mul-le-mul_right, pow-succ'}
 use borrow.Rule.Slice.PartMut.{put_mid, post_of}
-use Rattle.std.proofs.lemmas.List.{append_assoc, length-append, length-take, take_all, take_more, drop-set, take_at, drop_at, set_at, drop_more, drop_all, drop-take, take-take, length-drop}
+use Rattle.std.proofs.lemmas.List.{append_assoc, length-append, length-take, take_all, take_more, drop-set, take_at, drop_at, set_at, drop_more, drop_all, drop-take, take-take, length-drop, take-append-drop}
+use Rattle.std.proofs.lemmas.List.Folds.{list_all-append}
+use Rattle.std.proofs.lemmas.List.Sums.{fold-append}
 use Rattle.std.proofs.lemmas.Bool.{cases_lt, leb-true, le-leb, and_parts, and_from}
 use Rattle.positions.specs.Numerals.{within, digits, number_after, number_of, numeral}
 
@@ -52,22 +56,17 @@ filled k i j p a b c h lp la lb lc ei ej =
     ∙ append_assoc a b (c ++ (h ∷ []))
 
 pub digits_append : (s t : List ℕ) → digits s ≡ true → digits t ≡ true → digits (s ++ t) ≡ true
-digits_append [] t p q = q
-digits_append (c ∷ s) t p q =
-    let h = and_parts (within 48 57 c) (digits s) p in
-    and_from (within 48 57 c) (digits (s ++ t)) h.0 (digits_append s t h.1 q)
+digits_append s t p q = list_all-append (within 48 57) s t ∙ and_from (digits s) (digits t) p q
+
+-- of digits both the beginning is made and the rest
+digits_parts : (n : ℕ) (s : List ℕ) → digits s ≡ true → (digits (take n s) ≡ true) × (digits (drop n s) ≡ true)
+digits_parts n s h = and_parts (digits (take n s)) (digits (drop n s)) (sym (list_all-append (within 48 57) (take n s) (drop n s)) ∙ ap digits (take-append-drop n s) ∙ h)
 
 pub digits_take : (n : ℕ) (s : List ℕ) → digits s ≡ true → digits (take n s) ≡ true
-digits_take zero s h = refl
-digits_take (suc n) [] h = refl
-digits_take (suc n) (c ∷ s) h =
-    let p = and_parts (within 48 57 c) (digits s) h in
-    and_from (within 48 57 c) (digits (take n s)) p.0 (digits_take n s p.1)
+digits_take n s h = (digits_parts n s h).0
 
-pub digits_drop : (n : ℕ) (s : List ℕ) → digits s ≡ true → digits (drop n s) ≡ true
-digits_drop zero s h = h
-digits_drop (suc n) [] h = refl
-digits_drop (suc n) (c ∷ s) h = digits_drop n s (and_parts (within 48 57 c) (digits s) h).1
+digits_drop : (n : ℕ) (s : List ℕ) → digits s ≡ true → digits (drop n s) ≡ true
+digits_drop n s h = (digits_parts n s h).1
 
 -- m symbols from place i on, of a text that is cut off behind them
 pub field_take : (n i m : ℕ) (s : List ℕ) → i + m ≤ n → take m (drop i (take n s)) ≡ take m (drop i s)
@@ -102,8 +101,7 @@ number_held m n s =
     (cases_lt m n)
 
 number_push : (n : ℕ) (s : List ℕ) (c : ℕ) → number_after n (s ++ (c ∷ [])) ≡ number_after n s * 10 + (c - 48)
-number_push n [] c = refl
-number_push n (d ∷ s) c = number_push (n * 10 + (d - 48)) s c
+number_push n s c = fold-append (λ m d. m * 10 + (d - 48)) n s (c ∷ [])
 
 -- the figures but the last, and the last
 number_last : (s : List ℕ) (k : ℕ) → length s ≡ suc k → number_of s ≡ number_of (take k s) * 10 + (get_or s k 0 - 48)
@@ -142,3 +140,27 @@ numeral_number (suc k) s l h =
       (λ i. (ap (numeral k) front ∙ rest.0) i ++ (last i ∷ [])) ∙ sym (take_more s k 0 (omega arith)) ∙ take_all (k + 1) s (omega arith),
       omega (arith, pow-suc 10 k, rest.1, d.1),
     )
+
+-- one figure more, held at the largest `u32`
+abbrev pub held : ℕ → ℕ → ℕ
+held n c = min (min (n * 10) 4294967295 + (c - 48)) 4294967295
+
+pub fold_held : (n : ℕ) (s : List ℕ) → n ≤ 4294967295 → fold held n s ≡ min (number_after n s) 4294967295
+fold_held n [] h = omega arith
+fold_held n (c ∷ s) h =
+    let step : held n c ≡ min (n * 10 + (c - 48)) 4294967295 = omega arith in
+    fold_held (held n c) s (omega arith)
+    ∙ ap (λ k. min (number_after k s) 4294967295) step
+    ∙ sym (number_held 4294967295 (n * 10 + (c - 48)) s)
+
+-- a symbol counts as 207 at most
+pub number_small : (n : ℕ) (s : List ℕ) → ((i : ℕ) → get_or s i 0 < 256) → number_after n s + 23 ≤ (n + 23) * 10 ^ length s
+number_small n [] h = omega arith
+number_small n (c ∷ s) h =
+    let m = n * 10 + (c - 48) in
+    let p = 10 ^ length s in
+    let rest : number_after m s + 23 ≤ (m + 23) * p = number_small m s (λ i. h (suc i)) in
+    let step : m + 23 ≤ (n + 23) * 10 = omega (arith, h 0) in
+    let more : (m + 23) * p ≤ (n + 23) * 10 * p = mul-le-mul_right p step in
+    let same : (n + 23) * 10 * p ≡ (n + 23) * 10 ^ suc (length s) = mul_assoc (n + 23) 10 p ∙ ap (λ q. (n + 23) * q) (sym (pow-succ' 10 (length s))) in
+    omega (arith, rest, more, same)

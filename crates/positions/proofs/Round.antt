@@ -1,11 +1,12 @@
 -- Texts and angles correspond one to one, for either axis.
-use Rattle.std.proofs.Common.{◌≡◌, ℕ, zero, suc, ◌+◌, ◌*◌, ◌/◌, ◌%◌, ◌^◌, ◌<◌, ◌≤◌, true, false, cond, eqb, ltb, leb, List, [], ◌∷◌, ◌++◌, length, get_or, take, drop, ℤ, pos, negsuc, neg_ℤ, nat_abs, Ok, Err, Decides, Result, sym, refl, ap, ◌∙◌, subst, ⊎_elim, arith, MatchResult}
+use Rattle.std.proofs.Common.{◌≡◌, ℕ, zero, suc, ◌+◌, ◌*◌, ◌/◌, ◌%◌, ◌^◌, ◌<◌, ◌≤◌, Bool, true, false, cond, ◌&&◌, eqb, ltb, leb, List, [], ◌∷◌, ◌++◌, length, get_or, take, drop, ℤ, pos, negsuc, neg_ℤ, nat_abs, Some, None, Ok, Err, Decides, Result, sym, refl, ap, ◌∙◌, subst, ⊎_elim, arith, MatchResult}
 use Rattle.std.proofs.lemmas.List.{append_assoc, length-append, length-take, length-drop, take_at, drop_at, drop-drop, take-append-drop, get_or_at, drop_more, drop_all}
 use Rattle.std.proofs.lemmas.Bool.{leb-true, ltb-true, lt-ltb, le-ltb, eqb-true, eq-eqb, and_parts, and_from, cond-true, cond-false, cond_both, cases_Bool}
+use Rattle.std.specs.Option.{ok_or, option_zip}
 use Rattle.positions.specs.declared.angles.Axis.{Axis}
 use Rattle.positions.specs.declared.angles.Axis.TheVariants.{Latitude, Longitude}
 use Rattle.positions.specs.Numerals.{digits, number_of, numeral}
-use Rattle.positions.specs.Angles.{figures_of, most_of, in_range, positive_of, negative_of, letter_for, width_of, degrees_of, minutes_of, thousandths_of, letter_of, magnitude_of, angle_of, fitting, is_angle, angle_text, Written}
+use Rattle.positions.specs.Angles.{figures_of, most_of, in_range, positive_of, negative_of, letter_for, width_of, degrees_of, minutes_of, thousandths_of, letter_of, magnitude_of, angle_of, fitting, is_angle, angle_text, angle_read, Written}
 use Rattle.positions.specs.declared.Refusal.{Refusal}
 use Rattle.positions.specs.declared.Refusal.TheVariants.{Position}
 use Rattle.positions.specs.Positions.{is_position, pair_of, reading, is_pair, position_text, Says}
@@ -233,6 +234,21 @@ pair_again s h =
       and_from (in_range Latitude (angle_of Latitude (take 8 s))) (in_range Longitude (angle_of Longitude (drop 8 s))) y.ranged x.ranged,
       (λ i. text_back Latitude (take 8 s) p.0 i ++ text_back Longitude (drop 8 s) p.1 i) ∙ take-append-drop 8 s,
     )
+
+-- two angles read are a pair
+both_read : (a b : Bool) (y x : ℤ) → ok_or (option_zip (cond a (Some y) None) (cond b (Some x) None)) Position ≡ cond (a && b) (Ok (y, x)) (Err Position)
+both_read true true y x = refl
+both_read true false y x = refl
+both_read false true y x = refl
+both_read false false y x = refl
+
+-- 17 symbols read as the two angles that stand in them
+pub angles_read : (s : List ℕ) → length s ≡ 17 → ok_or (option_zip (angle_read Latitude (take 8 s)) (angle_read Longitude (drop 8 s))) Position ≡ reading s
+angles_read s l =
+    let y = take 8 s in
+    let x = drop 8 s in
+    both_read (is_angle Latitude y) (is_angle Longitude x) (angle_of Latitude y) (angle_of Longitude x)
+    ∙ sym (λ i. cond (eq-eqb (length s) 17 l i && (is_angle Latitude y && is_angle Longitude x)) (Ok (pair_of s)) (Err Position))
 
 -- what is read is the pair of its text, and what is refused is the text of no pair
 abbrev pub Said : List ℕ → Result (ℤ × ℤ) Refusal → Type 0

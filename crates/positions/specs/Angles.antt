@@ -1,6 +1,6 @@
 -- Latitudes DDMMTTTH and longitudes DDDMMTTTH: degrees, minutes, thousandths of a minute and a letter.
 -- An angle is a number of thousandths of a minute, south and west negative.
-use Rattle.std.specs.Prelude.{◌≡◌, ℕ, ◌+◌, ◌*◌, ◌/◌, ◌%◌, Bool, true, cond, ◌&&◌, List, [], ◌∷◌, ◌++◌, length, take, drop, ℤ, pos, neg_ℤ, ◌==◌, int_le, int_lt, nat_lt, slice_index, unsigned_abs}
+use Rattle.std.specs.Prelude.{◌≡◌, ℕ, ◌+◌, ◌*◌, ◌/◌, ◌%◌, Bool, true, cond, ◌&&◌, List, [], ◌∷◌, ◌++◌, length, take, drop, ℤ, pos, neg_ℤ, Some, None, Option, ◌==◌, int_le, int_lt, nat_lt, slice_index, unsigned_abs}
 use Rattle.positions.specs.declared.angles.Axis.{Axis}
 use Rattle.positions.specs.declared.angles.Axis.TheVariants.{Latitude, Longitude}
 use Rattle.positions.specs.Numerals.{digits, number_of, numeral}
@@ -82,3 +82,7 @@ fitting a h z = in_range a z && h == letter_for a z
 -- s has the width of the axis's texts, figures before the letter, minutes below 60, and says an angle in range with its own letter
 abbrev pub is_angle : Axis → List ℕ → Bool
 is_angle a s = length s == width_of a && (digits (take (figures_of a + 5) s) && (nat_lt (minutes_of a s) 60 && fitting a (letter_of a s) (angle_of a s)))
+
+-- what reading the text s as an angle answers
+abbrev pub angle_read : Axis → List ℕ → Option ℤ
+angle_read a s = cond (is_angle a s) (Some (angle_of a s)) None

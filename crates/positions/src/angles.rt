@@ -1,11 +1,11 @@
 // Latitudes DDMMTTTH and longitudes DDDMMTTTH, as text and as signed thousandths of a minute.
-ghost use Rattle.std.specs.Prelude.{◌≡◌, ◌+◌, ◌^◌, ◌<◌, ◌≤◌, length, Decides};
-ghost use Rattle.positions.specs.Angles.{figures_of, most_of, least_of, greatest_of, positive_of, negative_of, letter_for, width_of, degrees_of, minutes_of, thousandths_of, magnitude_of, angle_of, in_range, fitting, is_angle, angle_text, Written};
+ghost use Rattle.std.specs.Prelude.{◌≡◌, ◌^◌, ◌<◌, ◌≤◌, length, Decides};
+ghost use Rattle.positions.specs.Angles.{figures_of, most_of, least_of, greatest_of, positive_of, negative_of, letter_for, width_of, degrees_of, minutes_of, thousandths_of, letter_of, magnitude_of, angle_of, in_range, fitting, is_angle, angle_read, angle_text, Written};
 
 use crate::numerals::{all_digits, number, write_number};
 
 // The two angles of a position. They differ in what these methods answer, and in nothing else.
-#[derive(Clone, Copy)]
+#[derive(Clone, Copy, Debug, PartialEq, Eq)]
 pub enum Axis {
     Latitude,
     Longitude,
@@ -69,107 +69,136 @@ impl Axis {
             Axis::Longitude => b'W',
         }
     }
-}
 
-fn degrees(axis: Axis, text: &[u8]) -> u32
-    requires { figures_of axis ≤ length text.now }
-    ensures value { result ≡ degrees_of axis text.now }
-    ensures small { result < 23000 }
-{
-    number(&text[0..axis.degree_figures()])
-}
+    // How many symbols a text has.
+    fn width(self) -> usize
+        ensures { result ≡ width_of self }
+    {
+        self.degree_figures() + 6
+    }
 
-fn minutes(axis: Axis, text: &[u8]) -> u32
-    requires { figures_of axis + 2 ≤ length text.now }
-    ensures value { result ≡ minutes_of axis text.now }
-    ensures small { result < 23000 }
-{
-    let at = axis.degree_figures();
-    number(&text[at..at + 2])
-}
+    pub fn is_in_range(self, angle: i32) -> bool
+        ensures { result ≡ in_range self angle }
+    {
+        (self.least()..=self.greatest()).contains(&angle)
+    }
 
-fn thousandths(axis: Axis, text: &[u8]) -> u32
-    requires { figures_of axis + 5 ≤ length text.now }
-    ensures value { result ≡ thousandths_of axis text.now }
-    ensures small { result < 23000 }
-{
-    let at = axis.degree_figures() + 2;
-    number(&text[at..at + 3])
-}
+    // Zero is N and E.
+    fn letter(self, angle: i32) -> u8
+        ensures { result ≡ letter_for self angle }
+    {
+        if angle < 0 {
+            self.negative()
+        } else {
+            self.positive()
+        }
+    }
 
-// How far from zero, in thousandths of a minute.
-fn magnitude(axis: Axis, text: &[u8]) -> u32
-    requires { figures_of axis + 5 ≤ length text.now }
-    ensures value { result ≡ magnitude_of axis text.now }
-    ensures small { result < 2 ^ 31 }
-{
-    (degrees(axis, text) * 60 + minutes(axis, text)) * 1000 + thousandths(axis, text)
-}
+    // The angle is in range, and the letter is that of the angle.
+    fn is_fitting(self, symbol: u8, angle: i32) -> bool
+        ensures { result ≡ fitting self symbol angle }
+    {
+        self.is_in_range(angle) && symbol == self.letter(angle)
+    }
 
-// What the text of an angle says, south and west negative.
-pub(crate) fn angle(axis: Axis, text: &[u8]) -> i32
-    requires { figures_of axis + 5 < length text.now }
-    ensures { result ≡ angle_of axis text.now }
-{
-    let magnitude = magnitude(axis, text) as i32;
-    if text[axis.degree_figures() + 5] == axis.negative() {
-        -magnitude
-    } else {
-        magnitude
+    // The angle in range whose text it is.
+    pub(crate) fn read(self, text: &[u8]) -> Option<i32>
+        ensures { result ≡ angle_read self text.now }
+    {
+        if text.len() != self.width() {
+            return None;
+        }
+        let text = AngleText { axis: self, text };
+        text.has_form().then_some(text.angle())
+    }
+
+    // Whether the text is that of an angle in range.
+    pub fn is_angle(self, text: &[u8]) -> bool
+        ensures value { result ≡ is_angle self text.now }
+        ensures written { Decides result (Written self text.now) }
+    {
+        self.read(text).is_some()
+    }
+
+    // Fills a place as wide as the axis's texts.
+    pub(crate) fn write(self, angle: i32, place: &mut [u8])
+        requires { length place.old ≡ width_of self }
+        ensures { place.new ≡ angle_text self angle }
+    {
+        let magnitude = angle.unsigned_abs();
+        let at = self.degree_figures();
+        write_number(magnitude / 60_000, &mut place[0..at]);
+        write_number(magnitude / 1000 % 60, &mut place[at..at + 2]);
+        write_number(magnitude % 1000, &mut place[at + 2..at + 5]);
+        place[at + 5] = self.letter(angle);
     }
 }
 
-pub fn is_in_range(axis: Axis, angle: i32) -> bool
-    ensures { result ≡ in_range axis angle }
-{
-    axis.least() <= angle && angle <= axis.greatest()
+// A text as wide as the axis's: what stands where an angle's parts stand.
+#[derive(Clone, Copy)]
+struct AngleText<'a> {
+    axis: Axis,
+    text: &'a [u8],
+    ghost whole: { length text.now ≡ width_of axis },
 }
 
-// Zero is N and E.
-fn letter(axis: Axis, angle: i32) -> u8
-    ensures { result ≡ letter_for axis angle }
-{
-    if angle < 0 {
-        axis.negative()
-    } else {
-        axis.positive()
+// Three parts, each a `number` of its own figures, and each with the bound that the sum in `magnitude` needs of it.
+impl AngleText<'_> {
+    fn degrees(&self) -> u32
+        ensures value { result ≡ degrees_of self.now.axis self.now.text.now }
+        ensures small { result < 23000 }
+    {
+        number(&self.text[0..self.axis.degree_figures()])
     }
-}
 
-// The angle is in range, and the letter is that of the angle.
-fn is_fitting(axis: Axis, symbol: u8, angle: i32) -> bool
-    ensures { result ≡ fitting axis symbol angle }
-{
-    is_in_range(axis, angle) && symbol == letter(axis, angle)
-}
+    fn minutes(&self) -> u32
+        ensures value { result ≡ minutes_of self.now.axis self.now.text.now }
+        ensures small { result < 23000 }
+    {
+        let at = self.axis.degree_figures();
+        number(&self.text[at..at + 2])
+    }
 
-fn has_form(axis: Axis, text: &[u8]) -> bool
-    ensures { result ≡ is_angle axis text.now }
-{
-    let last = axis.degree_figures() + 5;
-    text.len() == last + 1
-        && all_digits(&text[0..last])
-        && minutes(axis, text) < 60
-        && is_fitting(axis, text[last], angle(axis, text))
-}
+    fn thousandths(&self) -> u32
+        ensures value { result ≡ thousandths_of self.now.axis self.now.text.now }
+        ensures small { result < 23000 }
+    {
+        let at = self.axis.degree_figures() + 2;
+        number(&self.text[at..at + 3])
+    }
 
-// Whether the text is that of an angle in range.
-pub fn is_angle(axis: Axis, text: &[u8]) -> bool
-    ensures value { result ≡ is_angle axis text.now }
-    ensures written { Decides result (Written axis text.now) }
-{
-    has_form(axis, text)
-}
+    // How far from zero, in thousandths of a minute.
+    fn magnitude(&self) -> u32
+        ensures value { result ≡ magnitude_of self.now.axis self.now.text.now }
+        ensures small { result < 2 ^ 31 }
+    {
+        (self.degrees() * 60 + self.minutes()) * 1000 + self.thousandths()
+    }
 
-// Fills a place as wide as the axis's texts.
-pub(crate) fn write_angle(axis: Axis, angle: i32, place: &mut [u8])
-    requires { length place.old ≡ width_of axis }
-    ensures { place.new ≡ angle_text axis angle }
-{
-    let magnitude = angle.unsigned_abs();
-    let at = axis.degree_figures();
-    write_number(magnitude / 60_000, &mut place[0..at]);
-    write_number(magnitude / 1000 % 60, &mut place[at..at + 2]);
-    write_number(magnitude % 1000, &mut place[at + 2..at + 5]);
-    place[at + 5] = letter(axis, angle);
+    fn letter(&self) -> u8
+        ensures { result ≡ letter_of self.now.axis self.now.text.now }
+    {
+        self.text[self.axis.degree_figures() + 5]
+    }
+
+    // What the text says, south and west negative.
+    fn angle(&self) -> i32
+        ensures { result ≡ angle_of self.now.axis self.now.text.now }
+    {
+        let magnitude = self.magnitude() as i32;
+        if self.letter() == self.axis.negative() {
+            -magnitude
+        } else {
+            magnitude
+        }
+    }
+
+    // Whether it is the text of an angle in range.
+    fn has_form(&self) -> bool
+        ensures { result ≡ is_angle self.now.axis self.now.text.now }
+    {
+        all_digits(&self.text[0..self.axis.degree_figures() + 5])
+            && self.minutes() < 60
+            && self.axis.is_fitting(self.letter(), self.angle())
+    }
 }

@@ -2,19 +2,18 @@
 #![tactic(auto)]
 
 ghost use Rattle.std.specs.Prelude.{◌≡◌, ℕ, List, ◌++◌, length, take, drop, ℤ, is_ok, IfOk, if◌then◌else◌, Ok, MatchResult};
-ghost use Rattle.positions.specs.Positions.{refusal, is_position, reading, is_pair, position_text, writing, Says};
+ghost use Rattle.positions.specs.Positions.{refusal, reading, is_pair, position_text, writing, Says};
 
 pub use crate::angles::Axis;
-use crate::angles::{angle, is_angle, is_in_range, write_angle};
 
 pub mod angles;
 pub mod numerals;
 
-// Why a position is refused: it is none, or its place is too short.
-#[derive(Clone, Copy)]
+// Why a position is refused: it is none, or its place is too short. Each has the number that is returned for it.
+#[derive(Clone, Copy, Debug, PartialEq, Eq)]
 pub enum Refusal {
-    Place,
-    Position,
+    Place = 10,
+    Position = 11,
 }
 
 impl Refusal {
@@ -22,45 +21,31 @@ impl Refusal {
     pub fn number(self) -> u8
         ensures { result ≡ refusal self }
     {
-        match self {
-            Refusal::Place => 10,
-            Refusal::Position => 11,
-        }
+        self as u8
     }
 }
 
-// A latitude and then a longitude.
-fn is_position(text: &[u8]) -> bool
-    ensures { result ≡ is_position text.now }
-{
-    if text.len() != 17 {
-        return false;
-    }
-    let (latitude, longitude) = text.split_at(8);
-    is_angle(Axis::Latitude, latitude) && is_angle(Axis::Longitude, longitude)
-}
-
-// The latitude and the longitude of a position text. It is refused exactly where it is the text of no
+// The latitude and the longitude of a position text, two plain numbers. It is refused exactly where it is the text of no
 // pair in range, and what is read writes out to the same text.
 pub fn read_position(text: &[u8]) -> Result<(i32, i32), Refusal>
     ensures answer { result ≡ reading text.now }
     ensures said { MatchResult result (λ p. Says text.now p.0 p.1) (λ _. (y x : ℤ) → Says text.now y x → ⊥) }
 {
-    if !is_position(text) {
+    if text.len() != 17 {
         return Err(Refusal::Position);
     }
     let (latitude, longitude) = text.split_at(8);
-    Ok((
-        angle(Axis::Latitude, latitude),
-        angle(Axis::Longitude, longitude),
-    ))
+    Axis::Latitude
+        .read(latitude)
+        .zip(Axis::Longitude.read(longitude))
+        .ok_or(Refusal::Position)
 }
 
 // Both angles are in range.
 pub fn is_pair(latitude: i32, longitude: i32) -> bool
     ensures { result ≡ is_pair latitude longitude }
 {
-    is_in_range(Axis::Latitude, latitude) && is_in_range(Axis::Longitude, longitude)
+    Axis::Latitude.is_in_range(latitude) && Axis::Longitude.is_in_range(longitude)
 }
 
 // Writes the text of a pair. What is written reads back as the same pair, and no other text does.
@@ -77,7 +62,7 @@ pub fn write_position(pair: (i32, i32), place: &mut [u8]) -> Result<usize, Refus
     if place.len() < 17 {
         return Err(Refusal::Place);
     }
-    write_angle(Axis::Latitude, latitude, &mut place[0..8]);
-    write_angle(Axis::Longitude, longitude, &mut place[8..17]);
+    Axis::Latitude.write(latitude, &mut place[0..8]);
+    Axis::Longitude.write(longitude, &mut place[8..17]);
     Ok(17)
 }

@@ -1,22 +1,11 @@
 // Numbers written with decimal figures.
 ghost use Rattle.std.specs.Prelude.{◌≡◌, ◌<◌, ◌≤◌, min, length};
-ghost use Rattle.positions.specs.Numerals.{within, digits, number_of, numeral};
-
-fn is_digit(symbol: u8) -> bool
-    ensures { result ≡ within 48 57 symbol }
-{
-    b'0' <= symbol && symbol <= b'9'
-}
+ghost use Rattle.positions.specs.Numerals.{digits, number_of, numeral};
 
 pub fn all_digits(text: &[u8]) -> bool
     ensures { result ≡ digits text.now }
 {
-    for symbol in text {
-        if !is_digit(*symbol) {
-            return false;
-        }
-    }
-    true
+    text.iter().all(u8::is_ascii_digit)
 }
 
 // The number that the figures write, held at the largest `u32`.
@@ -25,16 +14,15 @@ pub fn number(figures: &[u8]) -> u32
     ensures short { length figures.now ≤ 4 → result ≡ number_of figures.now }
     ensures small { length figures.now ≤ 3 → result < 23000 }
 {
-    let mut n: u32 = 0;
-    for symbol in figures {
-        n = n
-            .saturating_mul(10)
-            .saturating_add(u32::from(symbol.saturating_sub(b'0')));
-    }
-    n
+    figures.iter().fold(0, |n: u32, symbol| {
+        n.saturating_mul(10)
+            .saturating_add(u32::from(symbol.saturating_sub(b'0')))
+    })
 }
 
-// Writes the last figures of `n`, as many as the place has.
+// Writes the last figures of `n`, as many as the place has. By index, since nothing is proved of a place that
+// is written through `iter_mut().rev()`.
+#[tactic(auto, using(crate::proofs::Figures::written_more), unfolding(crate::specs::Numerals::numeral))]
 pub fn write_number(mut n: u32, place: &mut [u8])
     ensures { place.new ≡ numeral (length place.old) n }
 {

@@ -1,6 +1,6 @@
 // The best position on the sheet, where the best latitude and the best longitude, each by itself, lie off it together.
 use crate::answers::*;
-use grammars::angle::{Latitude, Longitude};
+use grammars::angle::Axis;
 use grammars::sheet::Sheet;
 use grammars::{Both, Then};
 use runs::run;
@@ -26,8 +26,8 @@ fn sheet() -> Sheet {
 fn best_pair_on_the_sheet(rt: HostRuntime) -> Result<(), Fail> {
     let position = Then {
         cut: 8,
-        head: Latitude,
-        tail: Longitude,
+        head: Axis::Latitude,
+        tail: Axis::Longitude,
     };
     let grammar = Both {
         one: position,

@@ -1,6 +1,6 @@
 // Latitudes and longitudes at the ends of their ranges.
-use grammars::Grammar;
-use grammars::angle::{Latitude, Longitude};
+use crate::judged::{admits, admits_none, allows, allows_none};
+use positions::Axis;
 
 #[test]
 fn latitudes(rt: HostRuntime) {
@@ -12,10 +12,7 @@ fn latitudes(rt: HostRuntime) {
         b"8959999N",
         b"5012345N",
     ];
-    for text in admitted {
-        assert!(rt; Latitude.is_admitted(text));
-        assert!(rt; Latitude.is_allowed(text));
-    }
+    admits(&rt, &Axis::Latitude, &admitted);
     let others: [&[u8]; 13] = [
         b"9000001N",
         b"9000001S",
@@ -31,17 +28,13 @@ fn latitudes(rt: HostRuntime) {
         b" 012345N",
         b"",
     ];
-    for text in others {
-        assert!(rt; !Latitude.is_admitted(text));
-    }
+    admits_none(&rt, &Axis::Latitude, &others);
 }
 
 #[test]
 fn openings_of_latitudes(rt: HostRuntime) {
     let allowed: [&[u8]; 7] = [b"", b"9", b"90", b"905", b"9059999", b"501", b"0000000"];
-    for opening in allowed {
-        assert!(rt; Latitude.is_allowed(opening));
-    }
+    allows(&rt, &Axis::Latitude, &allowed);
     let others: [&[u8]; 8] = [
         b"N",
         b"50/",
@@ -52,9 +45,7 @@ fn openings_of_latitudes(rt: HostRuntime) {
         b"9059999N",
         b"5012345N0",
     ];
-    for opening in others {
-        assert!(rt; !Latitude.is_allowed(opening));
-    }
+    allows_none(&rt, &Axis::Latitude, &others);
 }
 
 #[test]
@@ -67,10 +58,7 @@ fn longitudes(rt: HostRuntime) {
         b"00000001W",
         b"00412345W",
     ];
-    for text in admitted {
-        assert!(rt; Longitude.is_admitted(text));
-        assert!(rt; Longitude.is_allowed(text));
-    }
+    admits(&rt, &Axis::Longitude, &admitted);
     let others: [&[u8]; 9] = [
         b"18000000W",
         b"18000001E",
@@ -82,17 +70,13 @@ fn longitudes(rt: HostRuntime) {
         b"004123456W",
         b"",
     ];
-    for text in others {
-        assert!(rt; !Longitude.is_admitted(text));
-    }
+    admits_none(&rt, &Axis::Longitude, &others);
 }
 
 #[test]
 fn openings_of_longitudes(rt: HostRuntime) {
     let allowed: [&[u8]; 6] = [b"", b"99", b"180", b"1805", b"18059999", b"0041"];
-    for opening in allowed {
-        assert!(rt; Longitude.is_allowed(opening));
-    }
+    allows(&rt, &Axis::Longitude, &allowed);
     let others: [&[u8]; 6] = [
         b"E",
         b"181",
@@ -101,7 +85,5 @@ fn openings_of_longitudes(rt: HostRuntime) {
         b"18000000W",
         b"00412345W0",
     ];
-    for opening in others {
-        assert!(rt; !Longitude.is_allowed(opening));
-    }
+    allows_none(&rt, &Axis::Longitude, &others);
 }

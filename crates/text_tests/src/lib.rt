@@ -6,6 +6,8 @@ mod angles;
 #[cfg(test)]
 mod dates;
 #[cfg(test)]
+mod judged;
+#[cfg(test)]
 mod lines;
 #[cfg(test)]
 mod numerals;

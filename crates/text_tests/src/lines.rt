@@ -1,12 +1,14 @@
 // Printed lines, and the explanations of corners that make no sheet.
-use descriptions::{line, read_sheet};
+use descriptions::{CornerFault, Kind, classify, line, read_sheet};
 use std::test::Fail;
+
+const SOUTHWEST: &[u8] = b"4900000N00600000W";
+
+const NORTHEAST: &[u8] = b"5100000N00200000W";
 
 #[test]
 fn lines_for_texts(rt: HostRuntime) -> Result<(), Fail> {
-    let Ok(sheet) = read_sheet(b"4900000N00600000W", b"5100000N00200000W") else {
-        return Err(Fail::new("no sheet"));
-    };
+    let sheet = read_sheet(SOUTHWEST, NORTHEAST)?;
     let cases = [
         ("29022000", "29022000: date"),
         (
@@ -30,28 +32,59 @@ fn lines_for_texts(rt: HostRuntime) -> Result<(), Fail> {
     Ok(())
 }
 
-fn explained(southwest: &[u8], northeast: &[u8]) -> &'static str {
-    match read_sheet(southwest, northeast) {
-        Ok(_) => "a sheet",
-        Err(fault) => fault.explanation(),
+#[test]
+fn corners(rt: HostRuntime) -> Result<(), Fail> {
+    assert!(rt; read_sheet(SOUTHWEST, NORTHEAST).is_ok());
+    let cases: [(&[u8], &[u8], CornerFault, &str); 3] = [
+        (
+            b"49N",
+            NORTHEAST,
+            CornerFault::Southwest,
+            "the southwest corner is no position",
+        ),
+        (
+            SOUTHWEST,
+            b"51N",
+            CornerFault::Northeast,
+            "the northeast corner is no position",
+        ),
+        (
+            NORTHEAST,
+            SOUTHWEST,
+            CornerFault::Order,
+            "the southwest corner lies north or east of the northeast corner",
+        ),
+    ];
+    for (southwest, northeast, fault, words) in cases {
+        assert_eq!(rt; read_sheet(southwest, northeast).err(), Some(fault));
+        assert_eq!(rt; fault.explanation(), words);
+        let made = fault.to_string(rt.alloc())?;
+        assert_eq!(rt; made.as_str(), words);
     }
+    Ok(())
 }
 
 #[test]
-fn corners(rt: HostRuntime) {
-    let low = b"4900000N00600000W";
-    let high = b"5100000N00200000W";
-    assert_eq!(rt; explained(low, high), "a sheet");
-    assert_eq!(rt;
-        explained(b"49N", high),
-        "the southwest corner is no position"
-    );
-    assert_eq!(rt;
-        explained(low, b"51N"),
-        "the northeast corner is no position"
-    );
-    assert_eq!(rt;
-        explained(high, low),
-        "the southwest corner lies north or east of the northeast corner"
-    );
+fn kinds(rt: HostRuntime) -> Result<(), Fail> {
+    let sheet = read_sheet(SOUTHWEST, NORTHEAST)?;
+    let cases: [(&[u8], Kind, &str); 4] = [
+        (b"5012345N", Kind::Latitude, "latitude"),
+        (b"00412345W", Kind::Longitude, "longitude"),
+        (
+            b"5012345N00412345W",
+            Kind::OnSheet(3_012_345, -252_345),
+            "position 50 12.345 N 4 12.345 W on the sheet",
+        ),
+        (
+            b"0002005S00402005E",
+            Kind::OffSheet(-2_005, 242_005),
+            "position 0 02.005 S 4 02.005 E off the sheet",
+        ),
+    ];
+    for (text, kind, words) in cases {
+        assert_eq!(rt; classify(&sheet, text), kind);
+        let made = kind.to_string(rt.alloc())?;
+        assert_eq!(rt; made.as_str(), words);
+    }
+    Ok(())
 }

@@ -27,7 +27,7 @@ fn figures_of_numbers(rt: HostRuntime) {
     write_number(12_345, &mut three);
     write_number(7, &mut two);
     write_number(7, &mut none);
-    assert_eq!(rt; &three[0..3], b"345".as_slice());
-    assert_eq!(rt; &two[0..2], b"07".as_slice());
-    assert_eq!(rt; &none[0..0], b"".as_slice());
+    assert_eq!(rt; &three, b"345");
+    assert_eq!(rt; &two, b"07");
+    assert_eq!(rt; &none, b"");
 }

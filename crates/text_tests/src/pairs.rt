@@ -1,71 +1,30 @@
 // Position texts and their pairs: 60,000 thousandths of a minute to a degree.
-use positions::angles::is_in_range;
-use positions::{Axis, is_pair, read_position, write_position};
-use std::test::Fail;
-
-struct Case {
-    text: &'static [u8; 17],
-    latitude: i32,
-    longitude: i32,
-}
-
-const CASES: [Case; 6] = [
-    Case {
-        text: b"5012345N00412345W",
-        latitude: 3_012_345,
-        longitude: -252_345,
-    },
-    Case {
-        text: b"9000000N18000000E",
-        latitude: 5_400_000,
-        longitude: 10_800_000,
-    },
-    Case {
-        text: b"9000000S17959999W",
-        latitude: -5_400_000,
-        longitude: -10_799_999,
-    },
-    Case {
-        text: b"0000000N00000000E",
-        latitude: 0,
-        longitude: 0,
-    },
-    Case {
-        text: b"0000001S00000001W",
-        latitude: -1,
-        longitude: -1,
-    },
-    Case {
-        text: b"0059999N00100000E",
-        latitude: 59_999,
-        longitude: 60_000,
-    },
-];
+use positions::{Axis, Refusal, is_pair, read_position, write_position};
 
 #[test]
-fn pairs_of_texts(rt: HostRuntime) -> Result<(), Fail> {
-    for case in &CASES {
-        let text = case.text;
+fn pairs_of_texts(rt: HostRuntime) {
+    let cases = [
+        (b"5012345N00412345W", (3_012_345, -252_345)),
+        (b"9000000N18000000E", (5_400_000, 10_800_000)),
+        (b"9000000S17959999W", (-5_400_000, -10_799_999)),
+        (b"0000000N00000000E", (0, 0)),
+        (b"0000001S00000001W", (-1, -1)),
+        (b"0059999N00100000E", (59_999, 60_000)),
+    ];
+    for (text, pair) in cases {
         let mut place = [b'.'; 20];
-        match read_position(text) {
-            Ok((latitude, longitude)) => {
-                assert_eq!(rt; latitude, case.latitude);
-                assert_eq!(rt; longitude, case.longitude);
-            }
-            Err(_) => return Err(Fail::new("refused")),
-        }
-        match write_position((case.latitude, case.longitude), &mut place) {
-            Ok(count) => assert_eq!(rt; count, 17),
-            Err(_) => return Err(Fail::new("refused")),
-        }
-        assert_eq!(rt; &place[0..17], &text[0..17]);
+        assert_eq!(rt; read_position(text).map_err(Refusal::number), Ok(pair));
+        assert_eq!(rt;
+            write_position(pair, &mut place).map_err(Refusal::number),
+            Ok(17)
+        );
+        assert_eq!(rt; &place[0..17], text.as_slice());
         assert_eq!(rt; &place[17..20], b"...".as_slice());
     }
-    Ok(())
 }
 
 #[test]
-fn no_positions(rt: HostRuntime) -> Result<(), Fail> {
+fn no_positions(rt: HostRuntime) {
     let others: [&[u8]; 10] = [
         b"",
         b"5012345N0041234W",
@@ -79,40 +38,40 @@ fn no_positions(rt: HostRuntime) -> Result<(), Fail> {
         b"5060000N00412345W",
     ];
     for text in others {
-        match read_position(text) {
-            Ok(_) => return Err(Fail::new("read")),
-            Err(refusal) => assert_eq!(rt; refusal.number(), 11),
-        }
-    }
-    Ok(())
-}
-
-fn refusal_number(latitude: i32, longitude: i32, place: &mut [u8]) -> u8 {
-    match write_position((latitude, longitude), place) {
-        Ok(_) => 0,
-        Err(refusal) => refusal.number(),
+        assert_eq!(rt; read_position(text).map_err(Refusal::number), Err(11));
     }
 }
 
 #[test]
 fn places_and_refusals(rt: HostRuntime) {
     let mut place = [b'.'; 16];
-    assert_eq!(rt; refusal_number(3_012_345, -252_345, &mut place), 10);
-    assert_eq!(rt; refusal_number(5_400_001, 0, &mut place), 11);
-    assert_eq!(rt; refusal_number(-5_400_001, 0, &mut place), 11);
-    assert_eq!(rt; refusal_number(0, 10_800_001, &mut place), 11);
-    assert_eq!(rt; refusal_number(0, -10_800_000, &mut place), 11);
-    assert_eq!(rt; &place[0..16], b"................".as_slice());
+    let cases = [
+        ((3_012_345, -252_345), 10),
+        ((5_400_001, 0), 11),
+        ((-5_400_001, 0), 11),
+        ((0, 10_800_001), 11),
+        ((0, -10_800_000), 11),
+    ];
+    for (pair, number) in cases {
+        assert_eq!(rt;
+            write_position(pair, &mut place).map_err(Refusal::number),
+            Err(number)
+        );
+    }
+    assert_eq!(rt; &place, b"................");
     let mut long = [b'.'; 18];
-    assert_eq!(rt; refusal_number(0, 10_800_001, &mut long), 11);
-    assert_eq!(rt; &long[0..18], b"..................".as_slice());
+    let refused = write_position((0, 10_800_001), &mut long);
+    assert_eq!(rt; refused.map_err(Refusal::number), Err(11));
+    assert_eq!(rt; &long, b"..................");
     let mut exact = [b'.'; 17];
-    assert_eq!(rt; refusal_number(3_012_345, -252_345, &mut exact), 0);
-    assert_eq!(rt; &exact[0..17], b"5012345N00412345W".as_slice());
+    let written = write_position((3_012_345, -252_345), &mut exact);
+    assert_eq!(rt; written.map_err(Refusal::number), Ok(17));
+    assert_eq!(rt; &exact, b"5012345N00412345W");
 }
 
 #[test]
 fn ranges(rt: HostRuntime) {
+    // Two tables and two loops, since `is_pair` takes the two angles in two places.
     let latitudes: [(i32, bool); 6] = [
         (i32::MIN, false),
         (-5_400_001, false),
@@ -122,7 +81,7 @@ fn ranges(rt: HostRuntime) {
         (i32::MAX, false),
     ];
     for (angle, inside) in latitudes {
-        assert_eq!(rt; is_in_range(Axis::Latitude, angle), inside);
+        assert_eq!(rt; Axis::Latitude.is_in_range(angle), inside);
         assert_eq!(rt; is_pair(angle, 0), inside);
     }
     let longitudes: [(i32, bool); 6] = [
@@ -134,7 +93,7 @@ fn ranges(rt: HostRuntime) {
         (i32::MAX, false),
     ];
     for (angle, inside) in longitudes {
-        assert_eq!(rt; is_in_range(Axis::Longitude, angle), inside);
+        assert_eq!(rt; Axis::Longitude.is_in_range(angle), inside);
         assert_eq!(rt; is_pair(0, angle), inside);
     }
 }

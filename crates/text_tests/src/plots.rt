@@ -1,29 +1,27 @@
 // Plotted marks: 3,012,345 is 002DF6F9 and -252,345 is FFFC2647, as 0003D9B9 is 252,345.
-use marks::propose;
+use marks::{Proposal, propose};
+use positions::Refusal;
 use std::test::Fail;
 
 #[test]
 fn a_plotted_mark(rt: HostRuntime) -> Result<(), Fail> {
     let mut short = [7; 7];
     let mut place = [7; 9];
-    let Ok(proposal) = propose(b"5012345N00412345W") else {
-        return Err(Fail::new("refused"));
-    };
-    let mark = proposal.confirm();
+    let mark = propose(b"5012345N00412345W")
+        .map_err(Refusal::number)?
+        .confirm();
     let Err((refusal, mark)) = mark.plot(&mut short) else {
         return Err(Fail::new("plotted"));
     };
+    // A mark cannot be dropped, so one that came back would have to be named.
     let count = match mark.plot(&mut place) {
         Ok(count) => count,
         Err((_, _mark)) => unreachable(),
     };
     assert_eq!(rt; refusal.number(), 10);
-    assert_eq!(rt; &short[0..7], [7, 7, 7, 7, 7, 7, 7].as_slice());
+    assert_eq!(rt; short, [7; 7]);
     assert_eq!(rt; count, 8);
-    assert_eq!(rt;
-        &place[0..9],
-        [0x00, 0x2d, 0xf6, 0xf9, 0xff, 0xfc, 0x26, 0x47, 7].as_slice()
-    );
+    assert_eq!(rt; place, [0x00, 0x2d, 0xf6, 0xf9, 0xff, 0xfc, 0x26, 0x47, 7]);
     Ok(())
 }
 
@@ -42,40 +40,26 @@ fn marks_at_the_ends_of_the_ranges(rt: HostRuntime) -> Result<(), Fail> {
     ];
     for (text, bytes) in cases {
         let mut place = [7; 8];
-        let Ok(proposal) = propose(text) else {
-            return Err(Fail::new("refused"));
-        };
+        let proposal = propose(text).map_err(Refusal::number)?;
+        // A mark cannot be dropped, so one that came back would have to be named.
         let count = match proposal.confirm().plot(&mut place) {
             Ok(count) => count,
             Err((_, _mark)) => unreachable(),
         };
         assert_eq!(rt; count, 8);
-        assert_eq!(rt; &place[0..8], &bytes[0..8]);
+        assert_eq!(rt; place, bytes);
     }
     Ok(())
 }
 
 #[test]
-fn a_rejected_mark(rt: HostRuntime) -> Result<(), Fail> {
-    let Ok(proposal) = propose(b"9000000S18000000E") else {
-        return Err(Fail::new("refused"));
-    };
-    let (latitude, longitude) = proposal.reject();
-    assert_eq!(rt; latitude, -5_400_000);
-    assert_eq!(rt; longitude, 10_800_000);
-    Ok(())
-}
-
-#[test]
-fn no_proposal(rt: HostRuntime) -> Result<(), Fail> {
-    match propose(b"5012345N18000000W") {
-        Ok(proposal) => {
-            let _pair = proposal.reject();
-            Err(Fail::new("proposed"))
-        }
-        Err(refusal) => {
-            assert_eq!(rt; refusal.number(), 11);
-            Ok(())
-        },
+fn rejected_marks(rt: HostRuntime) {
+    let cases: [(&[u8], Result<(i32, i32), u8>); 2] = [
+        (b"9000000S18000000E", Ok((-5_400_000, 10_800_000))),
+        (b"5012345N18000000W", Err(11)),
+    ];
+    for (text, pair) in cases {
+        let rejected = propose(text).map(Proposal::reject);
+        assert_eq!(rt; rejected.map_err(Refusal::number), pair);
     }
 }

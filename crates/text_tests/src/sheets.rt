@@ -1,8 +1,9 @@
 // A sheet from 49 to 51 degrees north and from 6 to 2 degrees west, tables that fail, and combined grammars.
-use grammars::angle::{Latitude, Longitude};
+use crate::judged::{admits, admits_none, allows_none};
 use grammars::date::Date;
 use grammars::sheet::Sheet;
 use grammars::{Both, Grammar, Then, check_number};
+use positions::Axis;
 
 fn table(south: i32, north: i32, west: i32, east: i32) -> Sheet {
     Sheet {
@@ -24,10 +25,7 @@ fn positions_on_a_sheet(rt: HostRuntime) {
         b"5100000N00600000W",
         b"4900000N00200000W",
     ];
-    for text in inside {
-        assert!(rt; sheet.is_admitted(text));
-        assert!(rt; sheet.is_allowed(text));
-    }
+    admits(&rt, &sheet, &inside);
     let outside: [&[u8]; 10] = [
         b"5100001N00412345W",
         b"4859999N00412345W",
@@ -40,10 +38,8 @@ fn positions_on_a_sheet(rt: HostRuntime) {
         b"5012345N00412345X",
         b"xxxxxxxxxxxxxxxxx",
     ];
-    for text in outside {
-        assert!(rt; !sheet.is_admitted(text));
-        assert!(rt; !sheet.is_allowed(text));
-    }
+    admits_none(&rt, &sheet, &outside);
+    allows_none(&rt, &sheet, &outside);
     assert!(rt; sheet.is_allowed(b""));
     assert!(rt; sheet.is_allowed(b"xxxxxxxxxxxxxxxx"));
     assert!(rt; !sheet.is_allowed(b"5012345N00412345W0"));
@@ -51,17 +47,19 @@ fn positions_on_a_sheet(rt: HostRuntime) {
 
 #[test]
 fn tables(rt: HostRuntime) {
-    assert_eq!(rt;
-        check_number(table(-5_400_000, 5_400_000, -10_799_999, 10_800_000).check()),
-        0
-    );
-    assert_eq!(rt; check_number(table(5, 5, 7, 7).check()), 0);
-    assert_eq!(rt; check_number(table(6, 5, 7, 7).check()), 12);
-    assert_eq!(rt; check_number(table(5, 5, 8, 7).check()), 12);
-    assert_eq!(rt; check_number(table(-5_400_001, 5, 7, 7).check()), 12);
-    assert_eq!(rt; check_number(table(5, 5_400_001, 7, 7).check()), 12);
-    assert_eq!(rt; check_number(table(5, 5, -10_800_000, 7).check()), 12);
-    assert_eq!(rt; check_number(table(5, 5, 7, 10_800_001).check()), 12);
+    let cases = [
+        (table(-5_400_000, 5_400_000, -10_799_999, 10_800_000), 0),
+        (table(5, 5, 7, 7), 0),
+        (table(6, 5, 7, 7), 12),
+        (table(5, 5, 8, 7), 12),
+        (table(-5_400_001, 5, 7, 7), 12),
+        (table(5, 5_400_001, 7, 7), 12),
+        (table(5, 5, -10_800_000, 7), 12),
+        (table(5, 5, 7, 10_800_001), 12),
+    ];
+    for (sheet, number) in cases {
+        assert_eq!(rt; check_number(sheet.check()), number);
+    }
 }
 
 #[test]
@@ -76,8 +74,8 @@ fn a_failing_table(rt: HostRuntime) {
 fn combined_grammars(rt: HostRuntime) {
     let position = Then {
         cut: 8,
-        head: Latitude,
-        tail: Longitude,
+        head: Axis::Latitude,
+        tail: Axis::Longitude,
     };
     assert!(rt; position.is_admitted(b"5012345N00412345W"));
     assert!(rt; !position.is_admitted(b"5012345N"));
@@ -105,14 +103,14 @@ fn cuts(rt: HostRuntime) {
     let early = Then {
         cut: 4,
         head: Date,
-        tail: Latitude,
+        tail: Axis::Latitude,
     };
     assert!(rt; early.is_allowed(b"2902"));
     assert!(rt; !early.is_allowed(b"29020"));
     let at_once = Then {
         cut: 0,
         head: Date,
-        tail: Latitude,
+        tail: Axis::Latitude,
     };
     assert!(rt; at_once.is_allowed(b""));
     assert!(rt; !at_once.is_allowed(b"5"));

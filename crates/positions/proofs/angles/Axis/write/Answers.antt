@@ -3,12 +3,12 @@ use Rattle.std.proofs.lemmas.Int.{to_z-of_z}
 use Rattle.std.proofs.lemmas.List.{places}
 use Rattle.positions.specs.Angles.{figures_of, letter_for}
 use Rattle.positions.proofs.Figures.{as_numeral, filled}
-use Rattle.positions.proofs.angles.write_angle.Goals as goal
+use Rattle.positions.proofs.angles.Axis.write.Goals as goal
 
 pub returns : goal.returns
 returns c =
     let k = c.degree_figures-at.result in
-    let a = c.args.axis in
+    let a = c.args.self in
     let z = c.args.angle in
     let x = c.write_number.new.place in
     let y = c.write_number-2.new.place in
