@@ -1,9 +1,9 @@
 -- How often a chain stands in a list: what that says of members, repetition and a heap's order. Assumes nothing.
-use Rattle.std.proofs.Common.{◌≡◌, ℕ, zero, suc, ◌+◌, ◌≤◌, true, eqb, ◌⊎◌, List, [], ◌∷◌, ◌++◌, map, sum_by, sym, refl, ap, ◌∙◌, subst, inl, inr, ⊎_elim, arith}
+use Rattle.std.proofs.Common.{◌≡◌, ◌+◌, ◌<◌, ◌≤◌, true, eqb, ◌⊎◌, List, [], ◌∷◌, ◌++◌, map, sum_by, sym, refl, ap, ◌∙◌, subst, inl, inr, ⊎_elim, arith}
 use Rattle.std.specs.List.Sorted.{IsPermutation}
 use Rattle.std.proofs.lemmas.List.Sorted.{sum_by-IsPermutation}
 use Rattle.std.proofs.lemmas.List.Sums.{sum_by-cons}
-use Rattle.std.proofs.lemmas.Bool.{and_parts, and_from, eqb-true, eq-eqb, cond-true, cond-false, cases_Bool, false≢true}
+use Rattle.std.proofs.lemmas.Bool.{and_parts, and_from, eqb-true, eq-eqb, cond-true, cond-false, cases_Bool, cases_lt, false≢true}
 use Rattle.search.specs.Members.{Mem, Distinct, Alike, Without}
 use Rattle.search.specs.Chains.{Chain}
 use Rattle.bench.specs.Held.{same, once, times}
@@ -57,13 +57,9 @@ pub distinct_times : (xs : List Chain) → Distinct xs → (c : Chain) → times
 distinct_times [] d c = omega arith
 distinct_times (x ∷ xs) d c = ⊎_elim
     (λ (e : c ≡ x). let one : once c x ≡ 1 = ap (once c) (sym e) ∙ once_self c in
-    ⊎_elim (λ (k : times c xs ≡ 0). omega arith) (λ k. absurd (d.0 (subst (λ z. Mem z xs) e (times_mem c xs k)))) (none_or (times c xs)))
+    ⊎_elim (λ (k : 0 < times c xs). absurd (d.0 (subst (λ z. Mem z xs) e (times_mem c xs k)))) (λ k. omega arith) (cases_lt 0 (times c xs)))
     (λ n. let none = once_other c x n in omega (arith, distinct_times xs d.1 c))
     (equal_or c x)
-  where
-    none_or : (n : ℕ) → (n ≡ 0) ⊎ (1 ≤ n)
-    none_or zero = inl refl
-    none_or (suc n) = inr (omega arith)
 
 pub times_distinct : (xs : List Chain) → ((c : Chain) → times c xs ≤ 1) → Distinct xs
 times_distinct [] h = tt

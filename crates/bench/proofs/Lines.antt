@@ -1,13 +1,12 @@
 -- What a line held in place gives: its cells by their numbers, and the chain in which no cell is raised. Assumes nothing.
 use Rattle.std.proofs.Common.{◌≡◌, ℕ, ◌<◌, ◌≤◌, true, List, [], length, get_or, take, replicate, sym, ap, ◌∙◌, subst, arith}
 use Rattle.std.proofs.lemmas.List.{get_or-map, length-map, take-replicate}
-use Rattle.std.proofs.ByRecursion.{All-get_or}
 use Rattle.pages.specs.declared.lines.Cell.{Cell}
 use Rattle.pages.specs.declared.lines.Line.{Line}
 use Rattle.pages.specs.Few.{few_items}
 use Rattle.pages.specs.Shape.{Cells, cell_of, well_formed_line}
 use Rattle.pages.specs.Answers.{line_of}
-use Rattle.pages.proofs.Shape.{WellFormedCell, line_parts}
+use Rattle.pages.proofs.Shape.{line_parts}
 use Rattle.search.specs.Chains.{ChainOf, root}
 use Rattle.search.proofs.Raised.{sound}
 use Rattle.search.proofs.Growth.{root_chain}
@@ -25,9 +24,6 @@ cell_at line items same i d lt =
 module _ (l : Cells) (well : well_formed_line l ≡ true) where
   pub few_cells : length l ≤ 24
   few_cells = (line_parts l well).few
-
-  pub few_alternatives : (i : ℕ) → i < length l → length (get_or l i []) ≤ 8
-  few_alternatives i inside = (All-get_or WellFormedCell l i [] inside (line_parts l well).cells).few
 
   pub flat_root : take (length l) (replicate 24 0) ≡ root l
   flat_root = take-replicate (length l) 24 0 few_cells

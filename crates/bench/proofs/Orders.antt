@@ -1,11 +1,11 @@
 -- What the order of places gives: the first of a heap stands before all others. Assumes nothing.
-use Rattle.std.proofs.Common.{◌≡◌, ℕ, zero, suc, ◌<◌, Bool, true, false, cond, eqb, ltb, List, [], ◌∷◌, length, get_or, take, Some, None, Option, Ordering, Less, Equal, Greater, sym, ap, ◌∙◌, subst, ⊎_elim, true≢false, arith, MatchOption, IfSome, IfNone}
+use Rattle.std.proofs.Common.{◌≡◌, ℕ, zero, suc, ◌<◌, Bool, true, false, cond, List, [], ◌∷◌, length, get_or, take, Some, None, Option, Ordering, Less, Equal, Greater, sym, ap, ◌∙◌, ⊎_elim, true≢false, arith, MatchOption, IfSome, IfNone}
 use Rattle.std.specs.List.Sorted.{IsPermutation}
 use Rattle.std.specs.BinaryHeap.{PopsGreatest}
 use Rattle.std.specs.Ordering.{ordering_then, is_lt, nat_cmp}
+use Rattle.std.specs.Cmp.{nat_cmp_is}
 use Rattle.std.specs.Cmp.Lexicographic.{slice_cmp}
 use Rattle.std.specs.List.{AllByRecursion}
-use Rattle.std.proofs.lemmas.Bool.{lt-ltb, le-ltb, eq-eqb}
 use Rattle.bench.specs.declared.places.Place.{Place}
 use Rattle.bench.specs.Ranks.{ranks_of}
 use Rattle.bench.specs.Order.{by_total, standing, Ready, Before, First}
@@ -15,39 +15,30 @@ pub tied_totals : (no_worse : ℕ → ℕ → Bool) (a b : ℕ) (k : Ordering) �
 tied_totals no_worse a b k p q =
     ap (λ t. ordering_then (cond t (cond (no_worse b a) Equal Greater) Less) k) p ∙ ap (λ t. ordering_then (cond t Equal Greater) k) q
 
-by_eq : (s t : Bool) → s ≡ false → t ≡ true → cond s Less (cond t Equal Greater) ≡ Equal
-by_eq s t p q = ap (λ k. cond k Less (cond t Equal Greater)) p ∙ ap (λ k. cond k Equal Greater) q
-
-same_rank : (x y : ℕ) → x ≡ y → nat_cmp x y ≡ Equal
-same_rank x y e = by_eq (ltb x y) (eqb x y) (le-ltb x y (omega arith)) (eq-eqb x y e)
-
-below_zero : (k : ℕ) → k < zero → ⊥
-below_zero k h = omega arith
-
 lower_less : (k : ℕ) (xs ys : List ℕ) → k < length xs → k < length ys → take k xs ≡ take k ys → get_or xs k 0 < get_or ys k 0 → slice_cmp nat_cmp xs ys ≡ Less
-lower_less k [] ys h h' e l = absurd (below_zero k h)
-lower_less k (x ∷ xs) [] h h' e l = absurd (below_zero k h')
-lower_less zero (x ∷ xs) (y ∷ ys) h h' e l = ap (λ t. ordering_then (cond t Less (cond (eqb x y) Equal Greater)) (slice_cmp nat_cmp xs ys)) (lt-ltb x y l)
+lower_less k [] ys h h' e l = absurd (omega arith)
+lower_less k (x ∷ xs) [] h h' e l = absurd (omega arith)
+lower_less zero (x ∷ xs) (y ∷ ys) h h' e l = ap (λ r. ordering_then r (slice_cmp nat_cmp xs ys)) (sym (nat_cmp_is x y Less l))
 lower_less (suc k) (x ∷ xs) (y ∷ ys) h h' e l =
     let same : x ≡ y = cc in
     let rest : take k xs ≡ take k ys = cc in
-    ap (λ r. ordering_then r (slice_cmp nat_cmp xs ys)) (same_rank x y same) ∙ lower_less k xs ys (omega arith) (omega arith) rest l
+    ap (λ r. ordering_then r (slice_cmp nat_cmp xs ys)) (sym (nat_cmp_is x y Equal same)) ∙ lower_less k xs ys (omega arith) (omega arith) rest l
 
 -- what stands before x is greater than x
 before_less : {S : Type 0} (no_worse : ℕ → ℕ → Bool) (x y : Place S) → Before no_worse y x → standing no_worse x y ≡ Less
 before_less no_worse x y =
     ⊎_elim
-    (λ better. ap (λ t. ordering_then (cond t (cond (no_worse y.total x.total) Equal Greater) Less) (slice_cmp nat_cmp (ranks_of y.ranks) (ranks_of x.ranks))) better.1)
+    (λ better. ap (λ t. ordering_then (cond t (cond (no_worse y.grade.total x.grade.total) Equal Greater) Less) (slice_cmp nat_cmp (ranks_of y.ranks.0) (ranks_of x.ranks.0))) better.1)
     (λ tied.
-    tied_totals no_worse x.total y.total (slice_cmp nat_cmp (ranks_of y.ranks) (ranks_of x.ranks)) tied.1 tied.0
-    ∙ lower_less tied.2.0 (ranks_of y.ranks) (ranks_of x.ranks) tied.2.1 tied.2.2 tied.2.3 tied.2.4)
+    tied_totals no_worse x.grade.total y.grade.total (slice_cmp nat_cmp (ranks_of y.ranks.0) (ranks_of x.ranks.0)) tied.1 tied.0
+    ∙ lower_less tied.2.0 (ranks_of y.ranks.0) (ranks_of x.ranks.0) tied.2.1 tied.2.2 tied.2.3 tied.2.4)
 
 firsts : {S : Type 0} (no_worse : ℕ → ℕ → Bool) (x : Place S) (ys : List (Place S)) → AllByRecursion (λ y. is_lt (standing no_worse x y) ≡ false) ys → First no_worse x ys
 firsts no_worse x [] h = tt
 firsts no_worse x (y ∷ ys) h = (λ b. true≢false (sym (ap is_lt (before_less no_worse x y b)) ∙ h.0), firsts no_worse x ys h.1)
 
--- what `pop` takes stands first, and leaves a heap
+-- what `pop` takes stands first
 module _ {S : Type 0} (no_worse : ℕ → ℕ → Bool) (xs ys : List (Place S)) where
-  pub popped : (N M : Type 0) (r : Option (Place S)) → IfNone r N → IfNone r ((ys ≡ xs) × M) → IfSome r (λ x. IsPermutation xs (x ∷ ys)) → IfSome r (λ x. PopsGreatest (standing no_worse) xs x ys) → Ready no_worse xs → MatchOption r (N × (ys ≡ xs)) (λ x. First no_worse x xs × IsPermutation xs (x ∷ ys)) × Ready no_worse ys
-  popped N M None n e p h ready = ((n, e.0), subst (Ready no_worse) (sym e.0) ready)
-  popped N M (Some x) n e p h ready = ((firsts no_worse x xs (h ready).1, p), (h ready).0)
+  pub popped : (N M : Type 0) (r : Option (Place S)) → IfNone r N → IfNone r ((ys ≡ xs) × M) → IfSome r (λ x. IsPermutation xs (x ∷ ys)) → IfSome r (λ x. PopsGreatest (standing no_worse) xs x ys) → Ready no_worse xs → MatchOption r (N × (ys ≡ xs)) (λ x. First no_worse x xs × IsPermutation xs (x ∷ ys))
+  popped N M None n e p h ready = (n, e.0)
+  popped N M (Some x) n e p h ready = (firsts no_worse x xs (h ready).1, p)

@@ -1,17 +1,19 @@
 -- A look goes on in the ranking, and a search stops at the first that is admitted. Assumes nothing.
 use Rattle.std.proofs.Common.{◌≡◌, ℕ, zero, suc, ◌+◌, ◌-◌, ◌*◌, ◌<◌, ◌≤◌, Bool, true, false, cond, List, [], ◌∷◌, ◌++◌, length, take, drop, Some, None, Option, sym, refl, ap, ◌∙◌, subst, inl, ⊎_elim, mul_comm, mul-le-mul_left, mul-zero, mul-suc, arith}
 use Rattle.std.specs.List.{AllByRecursion}
-use Rattle.std.proofs.lemmas.List.{drop-drop}
+use Rattle.std.proofs.lemmas.List.{drop-drop, drop-take, nil_from_length}
 use Rattle.std.proofs.lemmas.Bool.{cases_lt, cond-true, cond-false}
 use Rattle.std.proofs.ByRecursion.{All-push}
 use Rattle.scores.specs.Scores.{Meaning, Laws}
+use Rattle.scores.specs.declared.Score.{Ghosts}
 use Rattle.grammars.specs.Grammars.{Texts, Sets, Lawful}
 use Rattle.pages.proofs.Shape.{line_parts}
 use Rattle.search.specs.Members.{Mem}
 use Rattle.search.specs.BestFirst.{Frontier, Least}
 use Rattle.pages.specs.Shape.{Cells, well_formed_line}
+use Rattle.search.specs.Chains as chains
 use Rattle.search.specs.Chains.{Chain, ChainOf, before, children, lowered, ranking, root}
-use Rattle.search.proofs.Members.{take_next, mem_drop}
+use Rattle.search.proofs.Members.{take_next, drop_next, mem_drop}
 use Rattle.search.proofs.Ranking.{ranked}
 use Rattle.search.proofs.Growth.{chains_best_first, small}
 use Rattle.bench.specs.declared.Bench.{Bench}
@@ -19,12 +21,19 @@ use Rattle.bench.specs.declared.Reading.{Reading}
 use Rattle.bench.specs.Held.{in_use, on_bench, times, Holds, Seen}
 use Rattle.bench.specs.Searched.{AgreesAt, admitted, due, one_further, first_passing}
 use Rattle.bench.proofs.Counts.{without_times, alike_times, distinct_alike}
+use Rattle.bench.proofs.Texts.{text_long, front}
 use Rattle.bench.proofs.Benches.{holds_self, many_on}
-use Rattle.bench.proofs.Texts.{no_items}
 
-module _ {S : Type 0} (s : Meaning) (laws : Laws s) (g : Sets) (lawful : Lawful g) (l : Cells) (well : well_formed_line l ≡ true) where
+-- what a look at the chain c gives, with k chains looked at before: c is the next of the ranking, the reading begins with
+-- its text, and the bench agrees again
+pub record LookGives {S : Type 0} {m : Ghosts S} (s : Meaning) (g : Sets) (l : Cells) (k granted : ℕ) (is : Bench S m) (reading : Reading) (c : Chain) : Type 0 where
+  pub next : (k < length (ranking s g.allows l)) × (drop k (ranking s g.allows l) ≡ c ∷ drop (k + 1) (ranking s g.allows l))
+  pub text : (n : ℕ) → n ≡ length l → take n reading.text ≡ chains.text l c
+  pub agrees : k < granted → AgreesAt s g.allows l (k + 1) granted is
+
+module _ {S : Type 0} {m : Ghosts S} (s : Meaning) (laws : Laws s) (g : Sets) (lawful : Lawful g) (l : Cells) (well : well_formed_line l ≡ true) where
   -- the chains on the bench fit it, with room for the next look
-  pub room_left : (k granted : ℕ) (bench : Bench S) → AgreesAt s g.allows l k granted bench → k < granted → length (on_bench l bench) + length l ≤ 4097
+  pub room_left : (k granted : ℕ) (bench : Bench S m) → AgreesAt s g.allows l k granted bench → k < granted → length (on_bench l bench) + length l ≤ 4097
   room_left k granted bench h lt =
       let size = small s laws g lawful l well k (on_bench l bench) h.frontier in
       let more : length l * (k + 1) ≤ length l * granted = mul-le-mul_left (length l) (omega arith) in
@@ -42,15 +51,17 @@ module _ {S : Type 0} (s : Meaning) (laws : Laws s) (g : Sets) (lawful : Lawful 
           let i : k * suc n ≡ k * n + k = mul-suc k n in
           omega arith
 
-  module _ (k granted : ℕ) (was is : Bench S) (reading : Reading) (h : AgreesAt s g.allows l k granted was) (seen : Seen s g.allows l was is reading) where
+  module _ (k granted : ℕ) (was is : Bench S m) (reading : Reading) (h : AgreesAt s g.allows l k granted was) (seen : Seen s g.allows l was is reading) where
     least : Least (before s l) seen.chain (on_bench l was)
     least = (chains_best_first s laws g lawful l well).least k (on_bench l was) seen.chain h.frontier seen.chosen.first
 
-    -- the chain looked at is the next of the ranking
-    pub look_next : (k < length (ranking s g.allows l)) × (drop k (ranking s g.allows l) ≡ seen.chain ∷ drop (k + 1) (ranking s g.allows l))
-    look_next = (chains_best_first s laws g lawful l well).next k (on_bench l was) seen.chain h.frontier least
+    -- the chain looked at is one of the line, and the reading begins with its text
+    look_text : (n : ℕ) → n ≡ length l → take n reading.text ≡ chains.text l seen.chain
+    look_text n e =
+        let chain : ChainOf l seen.chain = (((ranked s laws g l).exactly_live seen.chain).0 (mem_drop seen.chain k (ranking s g.allows l) ((h.frontier.holds seen.chain).0 seen.chosen.first.0).0)).0 in
+        ap (λ r. take n r.text) seen.reads ∙ front (chains.text l seen.chain) _ n (text_long l seen.chain chain.long ∙ sym e)
 
-    pub look_agrees : k < granted → AgreesAt s g.allows l (k + 1) granted is
+    look_agrees : k < granted → AgreesAt s g.allows l (k + 1) granted is
     look_agrees lt =
         let best = chains_best_first s laws g lawful l well in
         let after = best.grows k (on_bench l was) seen.rest seen.chain h.frontier least (without_times seen.chain (on_bench l was) seen.rest h.frontier.once seen.chosen.others) in
@@ -63,24 +74,31 @@ module _ {S : Type 0} (s : Meaning) (laws : Laws s) (g : Sets) (lawful : Lawful 
           room = h.room;
         }
 
+    pub look_gives : LookGives s g l k granted is reading seen.chain
+    look_gives = record {
+      next = (chains_best_first s laws g lawful l well).next k (on_bench l was) seen.chain h.frontier least;
+      text = look_text;
+      agrees = look_agrees;
+    }
+
   -- an empty bench has been through all of it
-  pub look_ends : (k granted : ℕ) (bench : Bench S) → AgreesAt s g.allows l k granted bench → on_bench l bench ≡ [] → k ≡ length (ranking s g.allows l)
+  pub look_ends : (k granted : ℕ) (bench : Bench S m) → AgreesAt s g.allows l k granted bench → on_bench l bench ≡ [] → k ≡ length (ranking s g.allows l)
   look_ends k granted bench h e = ((chains_best_first s laws g lawful l well).ends k (on_bench l bench) h.frontier).0 e
 
-  pub look_left : (k granted : ℕ) (bench : Bench S) → AgreesAt s g.allows l k granted bench → k ≡ length (ranking s g.allows l) → on_bench l bench ≡ []
+  pub look_left : (k granted : ℕ) (bench : Bench S m) → AgreesAt s g.allows l k granted bench → k ≡ length (ranking s g.allows l) → on_bench l bench ≡ []
   look_left k granted bench h e = ((chains_best_first s laws g lawful l well).ends k (on_bench l bench) h.frontier).1 e
 
-pub agrees_empty : {S : Type 0} (s : Meaning) (allows : Texts) (l : Cells) (k granted : ℕ) (was is : Bench S) → AgreesAt s allows l k granted was → on_bench l was ≡ [] → Holds s l is [] → AgreesAt s allows l k granted is
+pub agrees_empty : {S : Type 0} {m : Ghosts S} (s : Meaning) (allows : Texts) (l : Cells) (k granted : ℕ) (was is : Bench S m) → AgreesAt s allows l k granted was → on_bench l was ≡ [] → Holds s l is [] → AgreesAt s allows l k granted is
 agrees_empty s allows l k granted was is h e empty = record {
   holds = holds_self s l is [] empty;
-  frontier = subst (Frontier lowered (ranking s allows l) k) (e ∙ sym (no_items (on_bench l is) empty.many)) h.frontier;
+  frontier = subst (Frontier lowered (ranking s allows l) k) (e ∙ sym (nil_from_length (on_bench l is) empty.many)) h.frontier;
   within = h.within;
   room = h.room;
 }
 
-module _ {S : Type 0} (s : Meaning) (laws : Laws s) (g : Sets) (lawful : Lawful g) (l : Cells) (well : well_formed_line l ≡ true) where
+module _ {S : Type 0} {m : Ghosts S} (s : Meaning) (laws : Laws s) (g : Sets) (lawful : Lawful g) (l : Cells) (well : well_formed_line l ≡ true) where
   -- a bench that holds the root alone agrees before any look
-  pub agrees_root : (bench : Bench S) → Holds s l bench (root l ∷ []) → AgreesAt s g.allows l 0 0 bench
+  pub agrees_root : (bench : Bench S m) → Holds s l bench (root l ∷ []) → AgreesAt s g.allows l 0 0 bench
   agrees_root bench h =
       let best = chains_best_first s laws g lawful l well in
       let none : length l * 0 ≡ 0 = mul-zero (length l) in
@@ -93,12 +111,12 @@ module _ {S : Type 0} (s : Meaning) (laws : Laws s) (g : Sets) (lawful : Lawful 
       }
 
   -- a bench that agrees is within its bound, and is empty exactly when no live chain is left
-  module _ (k granted : ℕ) (bench : Bench S) (h : AgreesAt s g.allows l k granted bench) where
+  module _ (k granted : ℕ) (bench : Bench S m) (h : AgreesAt s g.allows l k granted bench) where
     pub few_on : in_use bench ≤ 1 + k * (length l - 1)
     few_on = let size = small s laws g lawful l well k (on_bench l bench) h.frontier in omega (arith, many_on l bench)
 
     pub empty_ends : in_use bench ≡ 0 → k ≡ length (ranking s g.allows l)
-    empty_ends e = look_ends s laws g lawful l well k granted bench h (no_items (on_bench l bench) (omega (arith, many_on l bench)))
+    empty_ends e = look_ends s laws g lawful l well k granted bench h (nil_from_length (on_bench l bench) (omega (arith, many_on l bench)))
 
     pub full_left : (in_use bench ≡ 0 → ⊥) → k < length (ranking s g.allows l)
     full_left n =
@@ -120,17 +138,17 @@ module _ (P : Chain → Type 0) (rk : List Chain) (looked k : ℕ) (le : looked 
 
   pub here_in : (granted : ℕ) (c : Chain) → k < granted → drop k rk ≡ c ∷ drop (k + 1) rk
       → drop (k - looked) (take (granted - looked) (drop looked rk)) ≡ c ∷ drop ((k - looked) + 1) (take (granted - looked) (drop looked rk))
-  here_in granted c lt here = from_next (k - looked) (granted - looked) (drop looked rk) c (drop (k + 1) rk) (omega arith) (dropped ∙ here)
-    where
-      from_next : (n m : ℕ) (xs : List Chain) (c : Chain) (ys : List Chain) → n < m → drop n xs ≡ c ∷ ys → drop n (take m xs) ≡ c ∷ drop (n + 1) (take m xs)
-      from_next zero zero xs c ys lt e = absurd (omega arith)
-      from_next zero (suc m) [] c ys lt e = let z : ◌≡◌ {A = ℕ} 0 1 = cc in absurd (omega arith)
-      from_next zero (suc m) (x ∷ xs) c ys lt e = let q : x ≡ c = cc in ap (λ z. z ∷ take m xs) q
-      from_next (suc n) zero xs c ys lt e = absurd (omega arith)
-      from_next (suc n) (suc m) [] c ys lt e = let z : ◌≡◌ {A = ℕ} 0 1 = cc in absurd (omega arith)
-      from_next (suc n) (suc m) (x ∷ xs) c ys lt e =
-          let f : suc n + 1 ≡ suc (n + 1) = omega arith in
-          from_next n m xs c ys (omega arith) e ∙ ap (λ j. c ∷ drop j (x ∷ take m xs)) (sym f)
+  here_in granted c lt here =
+      let n = k - looked in
+      let xs = drop looked rk in
+      let next = dropped ∙ here in
+      let j = granted - (k + 1) in
+      let e : granted - looked ≡ n + suc j = omega arith in
+      let f : granted - looked ≡ (n + 1) + j = omega arith in
+      ap (λ m. drop n (take m xs)) e
+      ∙ drop-take n (suc j) xs
+      ∙ ap (take (suc j)) next
+      ∙ ap (λ ys. c ∷ ys) (sym (ap (λ m. drop (n + 1) (take m xs)) f ∙ drop-take (n + 1) j xs ∙ ap (take j) (drop_next n xs c (drop (k + 1) rk) next)))
 
 -- the first that passes, by those that do not
 module _ (test : Chain → Bool) where
@@ -139,11 +157,11 @@ module _ (test : Chain → Bool) where
   none_passes (c ∷ cs) h = cond-false (test c) (Some (0, c)) (one_further (first_passing test cs)) h.0 ∙ ap one_further (none_passes cs h.1)
 
   pub passes_first : (n : ℕ) (cs : List Chain) (c : Chain) → AllByRecursion (λ d. test d ≡ false) (take n cs) → drop n cs ≡ c ∷ drop (n + 1) cs → test c ≡ true → first_passing test cs ≡ Some (n, c)
-  passes_first zero [] c all here e = let z : ◌≡◌ {A = ℕ} 0 1 = cc in absurd (omega arith)
+  passes_first zero [] c all here e = cc
   passes_first zero (x ∷ cs) c all here e =
       let same : x ≡ c = cc in
       cond-true (test x) (Some (0, x)) (one_further (first_passing test cs)) (ap test same ∙ e) ∙ ap (λ z. Some (0, z)) same
-  passes_first (suc n) [] c all here e = let z : ◌≡◌ {A = ℕ} 0 1 = cc in absurd (omega arith)
+  passes_first (suc n) [] c all here e = cc
   passes_first (suc n) (x ∷ cs) c all here e =
       let next : suc n + 1 ≡ suc (n + 1) = omega arith in
       let one : n + 1 ≡ suc n = omega arith in
@@ -187,11 +205,11 @@ module _ (test : Chain → Bool) where
 
 -- where one stands in the beginning of a list, it stands in the list
 pub due_at : (n m : ℕ) (xs : List Chain) (c : Chain) (ys : List Chain) → drop n (take m xs) ≡ c ∷ ys → (n < m) × (drop n xs ≡ c ∷ drop (n + 1) xs)
-due_at zero zero xs c ys e = let z : ◌≡◌ {A = ℕ} 0 1 = cc in absurd (omega arith)
-due_at zero (suc m) [] c ys e = let z : ◌≡◌ {A = ℕ} 0 1 = cc in absurd (omega arith)
+due_at zero zero xs c ys e = absurd cc
+due_at zero (suc m) [] c ys e = absurd cc
 due_at zero (suc m) (x ∷ xs) c ys e = let q : x ≡ c = cc in (omega arith, ap (λ z. z ∷ xs) q)
-due_at (suc n) zero xs c ys e = let z : ◌≡◌ {A = ℕ} 0 1 = cc in absurd (omega arith)
-due_at (suc n) (suc m) [] c ys e = let z : ◌≡◌ {A = ℕ} 0 1 = cc in absurd (omega arith)
+due_at (suc n) zero xs c ys e = absurd cc
+due_at (suc n) (suc m) [] c ys e = absurd cc
 due_at (suc n) (suc m) (x ∷ xs) c ys e =
     let r = due_at n m xs c ys e in
     let lt = r.0 in

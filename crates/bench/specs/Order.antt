@@ -16,7 +16,7 @@ by_total no_worse a b = cond (no_worse a b) (cond (no_worse b a) Equal Greater) 
 -- a heap gives its greatest first, so what stands before is greater: by the total, and with totals equally good by the
 -- ranks, the lower in the first cell where they differ
 abbrev pub standing : {S : Type 0} → (ℕ → ℕ → Bool) → Place S → Place S → Ordering
-standing no_worse x y = ordering_then (by_total no_worse x.total y.total) (slice_cmp nat_cmp (ranks_of y.ranks) (ranks_of x.ranks))
+standing no_worse x y = ordering_then (by_total no_worse x.grade.total y.grade.total) (slice_cmp nat_cmp (ranks_of y.ranks.0) (ranks_of x.ranks.0))
 
 -- the items of a heap of places
 abbrev pub Ready : {S : Type 0} → (ℕ → ℕ → Bool) → List (Place S) → Type 0
@@ -29,8 +29,8 @@ Lower xs ys = (k : ℕ) × (k < length xs) × (k < length ys) × (take k xs ≡ 
 -- x stands before y: its total is better, or the two are equally good and its ranks are lower
 abbrev pub Before : {S : Type 0} → (ℕ → ℕ → Bool) → Place S → Place S → Type 0
 Before no_worse x y =
-    ((no_worse x.total y.total ≡ true) × (no_worse y.total x.total ≡ false))
-    ⊎ ((no_worse x.total y.total ≡ true) × (no_worse y.total x.total ≡ true) × Lower (ranks_of x.ranks) (ranks_of y.ranks))
+    ((no_worse x.grade.total y.grade.total ≡ true) × (no_worse y.grade.total x.grade.total ≡ false))
+    ⊎ ((no_worse x.grade.total y.grade.total ≡ true) × (no_worse y.grade.total x.grade.total ≡ true) × Lower (ranks_of x.ranks.0) (ranks_of y.ranks.0))
 
 -- no item of xs stands before x
 abbrev pub First : {S : Type 0} → (ℕ → ℕ → Bool) → Place S → List (Place S) → Type 0

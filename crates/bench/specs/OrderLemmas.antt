@@ -49,7 +49,7 @@ module _ {s : Meaning} (laws : Laws s) where
       let f : s.no_worse z x ≡ s.no_worse z y = both_ways (s.no_worse z x) (s.no_worse z y) (λ h. laws.transitive z x y h both.0) (λ h. laws.transitive z y x h both.1) in
       λ i. cond (e i) (cond (f i) Equal Greater) Less
 
-  totals : IsTotalOrder (by_total s.no_worse)
+  pub totals : IsTotalOrder (by_total s.no_worse)
   totals = record {
     antisymm = λ a b. turned (s.no_worse a b) (s.no_worse b a) (laws.either a b);
     trans = totals_trans;
@@ -59,5 +59,5 @@ module _ {s : Meaning} (laws : Laws s) where
   -- the better total first, and with totals equally good the lower ranks
   pub places : {S : Type 0} → IsTotalOrder {K = Place S} (standing s.no_worse)
   places {S} =
-      let by_ranks : IsTotalOrder (flip_args (on (λ (p : Place S). ranks_of p.ranks) (slice_cmp nat_cmp))) = back_total (on_total (λ (p : Place S). ranks_of p.ranks) (lists_total nat_cmp_total)) in
-      then_total (on_total (λ (p : Place S). p.total) totals) by_ranks
+      let by_ranks : IsTotalOrder (flip_args (on (λ (p : Place S). ranks_of p.ranks.0) (slice_cmp nat_cmp))) = back_total (on_total (λ (p : Place S). ranks_of p.ranks.0) (lists_total nat_cmp_total)) in
+      then_total (on_total (λ (p : Place S). p.grade.total) totals) by_ranks

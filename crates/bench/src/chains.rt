@@ -1,50 +1,86 @@
-// The text and the total of a chain of a line.
-ghost use Rattle.std.specs.Prelude.{◌≡◌, ◌+◌, ◌-◌, ◌<◌, [], ◌++◌, length, replicate, nat_lt, slice_index_or};
+// A chain of a line: the alternatives that it takes, its text and its total, and the chain that raises one of its cells.
+ghost use Rattle.std.specs.Prelude.{◌≡◌, ◌+◌, ◌-◌, ◌<◌, ◌≤◌, [], ◌++◌, length, replicate, slice_index, slice_index_or, MatchOption};
+ghost use Rattle.std.proofs.Props.{props};
 ghost use Rattle.pages.specs.Answers.{line_of};
-ghost use Rattle.search.specs.Chains.{ChainOf, no_alt, text, total};
+ghost use Rattle.search.specs.Chains.{ChainOf, no_alt, taken, text, total, root, raised, last_raised, or_zero};
 ghost use Rattle.bench.specs.Ranks.{chain_in};
 
 use crate::ranks::Ranks;
 use pages::{Alternative, Line, MOST_CELLS};
 use scores::Score;
 
-// The alternative of a rank in a cell.
-fn taken_in(line: &Line, cell: usize, rank: u8) -> Alternative
-    requires cell { cell < length (line_of line.now) }
-    requires rank { rank < length (slice_index_or (line_of line.now) cell []) }
-    ensures { result ≡ slice_index_or (slice_index_or (line_of line.now) cell []) rank no_alt }
-{
-    line.cells()[cell].alternatives()[usize::from(rank)]
+// A chain with its line.
+#[derive(Clone, Copy)]
+pub(crate) struct Chain<'a> {
+    pub(crate) line: &'a Line,
+    pub(crate) ranks: Ranks,
+    ghost of_line: { ChainOf (line_of line.now) (chain_in (line_of line.now) ranks) } by { Prim.hlevel props },
 }
 
-// Whether the cell has an alternative behind the one of this rank.
-pub(crate) fn has_more(line: &Line, cell: usize, rank: u8) -> bool
-    requires { cell < length (line_of line.now) }
-    ensures { result ≡ nat_lt (rank + 1) (length (slice_index_or (line_of line.now) cell [])) }
-{
-    usize::from(rank) + 1 < line.cells()[cell].alternatives().len()
-}
+impl<'a> Chain<'a> {
+    ghost use Rattle.bench.specs.Chains.{cells_of, chosen};
 
-// The text of a chain, and 0 past its end.
-pub(crate) fn text_of(line: &Line, ranks: &Ranks) -> [u8; MOST_CELLS]
-    requires { ChainOf (line_of line.now) (chain_in (line_of line.now) ranks.now) }
-    ensures { result ≡ text (line_of line.now) (chain_in (line_of line.now) ranks.now) ++ replicate (24 - length (line_of line.now)) 0 }
-{
-    let mut text = [0; MOST_CELLS];
-    for cell in 0..line.cells().len() {
-        text[cell] = taken_in(line, cell, ranks.rank(cell)).symbol;
+    // The chain in which no cell is raised.
+    pub(crate) fn flat(line: &'a Line) -> Chain<'a>
+        ensures cells { cells_of result ≡ line_of line.now }
+        ensures root { chosen result ≡ root (line_of line.now) }
+    {
+        Chain {
+            line,
+            ranks: Ranks::flat(),
+        }
     }
-    text
-}
 
-// The start total, stepped by the penalties of a chain from its first cell on.
-pub(crate) fn total_of<S: Score>(line: &Line, ranks: &Ranks) -> u64
-    requires { ChainOf (line_of line.now) (chain_in (line_of line.now) ranks.now) }
-    ensures { result ≡ total S.Score.meaning (line_of line.now) (chain_in (line_of line.now) ranks.now) }
-{
-    let mut total = S::start();
-    for cell in 0..line.cells().len() {
-        total = S::step(total, taken_in(line, cell, ranks.rank(cell)).penalty);
+    // The alternative that it takes in each cell, and an empty one past the last cell, held in place.
+    fn taken(&self) -> [Alternative; MOST_CELLS]
+        ensures { result ≡ taken (cells_of self.now) (chosen self.now) ++ replicate (24 - length (cells_of self.now)) no_alt }
+    {
+        let mut taken = [Alternative {
+            symbol: 0,
+            penalty: 0,
+        }; MOST_CELLS];
+        // By the index: nothing is known of what a loop over `iter_mut` with another iterator beside it has written.
+        for (i, cell) in self.line.cells().iter().enumerate() {
+            taken[i] = cell.alternatives()[usize::from(self.ranks.rank(i))];
+        }
+        taken
     }
-    total
+
+    // Its text, and 0 past its end, held in place.
+    pub(crate) fn text(&self) -> [u8; MOST_CELLS]
+        ensures { result ≡ text (cells_of self.now) (chosen self.now) ++ replicate (24 - length (cells_of self.now)) 0 }
+    {
+        self.taken().map(|alternative| alternative.symbol)
+    }
+
+    // The start total, stepped by its penalties from the first cell on.
+    pub(crate) fn total<S: Score>(&self) -> u64
+        ensures { result ≡ total S.Score.meaning (cells_of self.now) (chosen self.now) }
+    {
+        let penalties = self.taken().map(|alternative| alternative.penalty);
+        scores::total::<S>(&penalties[..self.line.cells().len()])
+    }
+
+    // The last raised cell, or 0 where none is raised.
+    pub(crate) fn last_raised(&self) -> usize
+        ensures { result ≡ or_zero (last_raised (chosen self.now)) }
+    {
+        self.ranks.last_raised(self.line.cells().len())
+    }
+
+    // The chain with one cell raised by one more, where the cell has another alternative behind the one that is taken.
+    pub(crate) fn raised(&self, cell: usize) -> Option<Chain<'a>>
+        requires { cell < length (cells_of self.now) }
+        ensures { MatchOption result (length (slice_index_or (cells_of self.now) cell []) ≤ slice_index (chosen self.now) cell + 1) (λ child. (slice_index (chosen self.now) cell + 1 < length (slice_index_or (cells_of self.now) cell [])) × (cells_of child ≡ cells_of self.now) × (chosen child ≡ raised (chosen self.now) cell)) }
+    {
+        let rank = self.ranks.rank(cell);
+        if usize::from(rank) + 1 < self.line.cells()[cell].alternatives().len() {
+            Some(Chain {
+                line: self.line,
+                ranks: self.ranks.raised(cell),
+            })
+        } else {
+            None
+        }
+    }
 }

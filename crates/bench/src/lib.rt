@@ -4,22 +4,17 @@
 
 ghost use Rattle.std.specs.Prelude.{◌≡◌, ◌+◌, ◌<◌, ◌≤◌, [], ◌∷◌, ◌++◌, length, IfOk, MatchOption, ◌==◌};
 ghost use Rattle.std.specs.BinaryHeap.{heap_capacity, heap_items, heap_len};
-ghost use Rattle.std.specs.List.Sorted.{IsPermutation};
-ghost use Rattle.grammars.specs.Grammars.{Sets, Lawful};
-ghost use Rattle.pages.specs.Answers.{line_of};
-ghost use Rattle.search.specs.Chains.{ChainOf, text as text_of, children};
-ghost use Rattle.bench.specs.Ranks.{chain_in};
+ghost use Rattle.std.proofs.Props.{props};
 ghost use Rattle.bench.specs.Order.{Ready, First};
-ghost use Rattle.bench.specs.Held.{in_use, Roomy, on_bench, Holds, Seen};
-ghost use Rattle.bench.specs.Searched.{AgreesAt, sought_of};
 
-use chains::{has_more, text_of, total_of};
+use chains::Chain;
 use grammars::Grammar;
 use pages::{Line, MOST_CELLS};
-use places::Place;
+use places::{Grade, Place};
 use ranks::Ranks;
 use scores::Score;
 use std::alloc::{AllocError, Global};
+use std::cmp::Reverse;
 use std::collections::BinaryHeap;
 use std::marker::PhantomData;
 
@@ -30,7 +25,8 @@ mod ranks;
 // How many places a bench has.
 pub const PLACES: usize = 4096;
 
-// The text and the total of a chain; the text fills as many bytes as the line has cells.
+// The text and the total of a chain; the text fills as many bytes as the line has cells. It is held in place: a search
+// asks for no memory.
 #[derive(Clone, Copy)]
 pub struct Reading {
     pub text: [u8; MOST_CELLS],
@@ -44,13 +40,24 @@ pub struct Sought {
     pub reading: Option<Reading>,
 }
 
-// Room for 4,096 places, got when the bench is made and never asked for again.
+// Room for 4,096 places, got when the bench is made and never asked for again. The heap stands in its order by the score.
+// What it holds is of a line that the bench does not have, so `Holds` is a condition of the calls.
 #[derive(Drop)]
 pub struct Bench<S: Score> {
     places: BinaryHeap<Place<S>>,
+    ghost roomy: { 4096 ≤ heap_capacity places },
+    ghost ready: { Ready S.Score.meaning.no_worse (heap_items places) } by { Prim.hlevel props },
 }
 
 impl<S: Score> Bench<S> {
+    ghost use Rattle.std.specs.List.Sorted.{IsPermutation};
+    ghost use Rattle.grammars.specs.Grammars.{Sets, Lawful};
+    ghost use Rattle.pages.specs.Answers.{line_of};
+    ghost use Rattle.search.specs.Chains.{text as text_of, children};
+    ghost use Rattle.bench.specs.Chains.{cells_of, chosen};
+    ghost use Rattle.bench.specs.Held.{in_use, Roomy, on_bench, Holds, Seen};
+    ghost use Rattle.bench.specs.Searched.{AgreesAt, sought_of};
+
     pub fn new(heap: Global) -> Result<Bench<S>, AllocError>
         ensures { IfOk result (λ b. Roomy b × (in_use b ≡ 0)) }
     {
@@ -59,30 +66,27 @@ impl<S: Score> Bench<S> {
     }
 
     // Puts a chain onto the bench, with its total.
-    fn put(&mut self, line: &Line, ranks: Ranks)
-        requires holds { Holds S.Score.meaning (line_of line.now) self.old (on_bench (line_of line.now) self.old) }
-        requires room { length (on_bench (line_of line.now) self.old) < 4096 }
-        requires chain { ChainOf (line_of line.now) (chain_in (line_of line.now) ranks) }
-        ensures { Holds S.Score.meaning (line_of line.now) self.new (on_bench (line_of line.now) self.old ++ chain_in (line_of line.now) ranks ∷ []) }
+    fn put(&mut self, chain: Chain<'_>)
+        requires holds { Holds S.Score.meaning (cells_of chain) self.old (on_bench (cells_of chain) self.old) }
+        requires room { length (on_bench (cells_of chain) self.old) < 4096 }
+        ensures { Holds S.Score.meaning (cells_of chain.entry) self.new (on_bench (cells_of chain.entry) self.old ++ chosen chain.entry ∷ []) }
     {
-        let total = total_of::<S>(line, &ranks);
-        match self.places.push(Place {
-            total,
-            ranks,
-            score: PhantomData,
-        }) {
-            Ok(()) => {}
-            Err(_) => unreachable(),
-        }
+        let place = Place {
+            grade: Grade {
+                total: chain.total::<S>(),
+                score: PhantomData,
+            },
+            ranks: Reverse(chain.ranks),
+        };
+        self.places.push(place).unwrap();
     }
 
     // Leaves the chain alone in which no cell is raised.
     pub fn begin(&mut self, line: &Line)
-        requires { Roomy self.old }
         ensures { (g : Sets) → Lawful g → AgreesAt S.Score.meaning g.allows (line_of line.now) 0 0 self.new }
     {
         self.places.clear();
-        self.put(line, Ranks::flat());
+        self.put(Chain::flat(line));
     }
 
     pub fn is_empty(&self) -> bool
@@ -99,47 +103,48 @@ impl<S: Score> Bench<S> {
 
     // Takes the chain that stands before all others.
     fn take_best(&mut self) -> Option<Place<S>>
-        requires ready { Ready S.Score.meaning.no_worse (heap_items self.old.places) }
-        ensures taken { MatchOption result ((heap_len self.old.places ≡ 0) × (heap_items self.new.places ≡ heap_items self.old.places)) (λ x. First S.Score.meaning.no_worse x (heap_items self.old.places) × IsPermutation (heap_items self.old.places) (x ∷ heap_items self.new.places)) }
-        ensures capacity { heap_capacity self.new.places ≡ heap_capacity self.old.places }
-        ensures ready { Ready S.Score.meaning.no_worse (heap_items self.new.places) }
+        ensures { MatchOption result ((heap_len self.old.places ≡ 0) × (heap_items self.new.places ≡ heap_items self.old.places)) (λ x. First S.Score.meaning.no_worse x (heap_items self.old.places) × IsPermutation (heap_items self.old.places) (x ∷ heap_items self.new.places)) }
     {
         self.places.pop()
     }
 
     // Puts the children of a chain onto the bench: in each, one cell from the last raised one on is raised by one more.
-    // Past the first opening that the grammar does not allow there are none.
-    fn put_children<G: Grammar>(&mut self, grammar: &G, line: &Line, parent: Ranks, text: &[u8])
-        requires holds { Holds S.Score.meaning (line_of line.now) self.old (on_bench (line_of line.now) self.old) }
-        requires chain { ChainOf (line_of line.now) (chain_in (line_of line.now) parent) }
-        requires text { text.now ≡ text_of (line_of line.now) (chain_in (line_of line.now) parent) }
-        requires room { length (on_bench (line_of line.now) self.old) + length (line_of line.now) ≤ 4096 }
-        ensures { Holds S.Score.meaning (line_of line.now) self.new (on_bench (line_of line.now) self.old ++ children (G.Grammar.meaning grammar.now).allows (line_of line.now) (chain_in (line_of line.now) parent)) }
+    // Past the first opening that the grammar does not allow there are none. The text is the parent's, which
+    // the caller has worked out already.
+    fn put_children<G: Grammar>(&mut self, grammar: &G, parent: Chain<'_>, text: &[u8])
+        requires holds { Holds S.Score.meaning (cells_of parent) self.old (on_bench (cells_of parent) self.old) }
+        requires text { text.now ≡ text_of (cells_of parent) (chosen parent) }
+        requires room { length (on_bench (cells_of parent) self.old) + length (cells_of parent) ≤ 4096 }
+        ensures { Holds S.Score.meaning (cells_of parent.entry) self.new (on_bench (cells_of parent.entry) self.old ++ children (G.Grammar.meaning grammar.now).allows (cells_of parent.entry) (chosen parent.entry)) }
     {
-        for cell in parent.last_raised(text.len())..text.len() {
-            if !grammar.is_allowed(&text[0..cell]) {
+        // By the number: it is also the length of the opening before the cell.
+        for cell in parent.last_raised()..text.len() {
+            if !grammar.is_allowed(&text[..cell]) {
                 return;
             }
-            if has_more(line, cell, parent.rank(cell)) {
-                self.put(line, parent.raised(cell));
+            if let Some(child) = parent.raised(cell) {
+                self.put(child);
             }
         }
     }
 
-    // Looks at the first chain on the bench, and leaves its children in its place.
+    // Looks at the first chain on the bench, and leaves its children in its place. Grammar and line are two arguments, as the
+    // caller has them apart.
     fn look<G: Grammar>(&mut self, grammar: &G, line: &Line) -> Option<Reading>
         requires holds { Holds S.Score.meaning (line_of line.now) self.old (on_bench (line_of line.now) self.old) }
         requires room { length (on_bench (line_of line.now) self.old) + length (line_of line.now) ≤ 4097 }
         ensures { MatchOption result ((on_bench (line_of line.now) self.old ≡ []) × Holds S.Score.meaning (line_of line.now) self.new []) (λ reading. Seen S.Score.meaning (G.Grammar.meaning grammar.now).allows (line_of line.now) self.old self.new reading) }
     {
-        let Some(place) = self.take_best() else {
-            return None;
+        let place = self.take_best()?;
+        let chain = Chain {
+            line,
+            ranks: place.ranks.0,
         };
-        let text = text_of(line, &place.ranks);
-        self.put_children(grammar, line, place.ranks, &text[0..line.cells().len()]);
+        let text = chain.text();
+        self.put_children(grammar, chain, &text[..line.cells().len()]);
         Some(Reading {
             text,
-            total: place.total,
+            total: place.grade.total,
         })
     }
 
@@ -155,14 +160,16 @@ impl<S: Score> Bench<S> {
         ensures agrees { AgreesAt S.Score.meaning (G.Grammar.meaning grammar.now).allows (line_of line.now) result.looked granted self.new }
         ensures sought { result ≡ sought_of S.Score.meaning (G.Grammar.meaning grammar.now) (line_of line.now) looked granted }
     {
+        // By the number: how many have been looked at is a part of the answer.
         for k in looked..granted {
+            // No `?`: an empty bench ends the search with an answer too.
             let Some(reading) = self.look(grammar, line) else {
                 return Sought {
                     looked: k,
                     reading: None,
                 };
             };
-            if grammar.is_admitted(&reading.text[0..line.cells().len()]) {
+            if grammar.is_admitted(&reading.text[..line.cells().len()]) {
                 return Sought {
                     looked: k + 1,
                     reading: Some(reading),

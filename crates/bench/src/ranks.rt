@@ -2,14 +2,12 @@
 ghost use Rattle.std.specs.Prelude.{◌≡◌, ◌+◌, ◌<◌, ◌≤◌, length, take, replicate, slice_index, slice_set};
 ghost use Rattle.search.specs.Chains.{last_raised, or_zero};
 ghost use Rattle.bench.specs.Ranks.{ranks_of};
-ghost use Rattle.std.specs.Ordering.{nat_cmp};
-ghost use Rattle.std.specs.Cmp.Lexicographic.{slice_cmp};
 
 use pages::MOST_CELLS;
-use std::cmp::Ordering;
 
-// The rank that a chain takes in each cell, and 0 past the last cell.
-#[derive(Clone, Copy)]
+// The rank that a chain takes in each cell, and 0 past the last cell, held in place. They are ordered by the rank in the
+// first cell where they differ.
+#[derive(Clone, Copy, PartialEq, Eq, PartialOrd, Ord)]
 pub(crate) struct Ranks {
     each: [u8; MOST_CELLS],
 }
@@ -43,24 +41,14 @@ impl Ranks {
         Ranks { each }
     }
 
-    // By the rank in the first cell where they differ.
-    pub(crate) fn compare(&self, other: &Ranks) -> Ordering
-        ensures { result ≡ slice_cmp nat_cmp (ranks_of self.now) (ranks_of other.now) }
-    {
-        self.each.cmp(&other.each)
-    }
-
     // The last raised one of the first cells, or 0 where none of them is raised.
     pub(crate) fn last_raised(&self, cells: usize) -> usize
         requires { cells ≤ 24 }
         ensures { result ≡ or_zero (last_raised (take cells (ranks_of self.now))) }
     {
-        let mut last = 0;
-        for cell in 0..cells {
-            if self.rank(cell) != 0 {
-                last = cell;
-            }
-        }
-        last
+        self.each[..cells]
+            .iter()
+            .rposition(|rank| *rank != 0)
+            .unwrap_or(0)
     }
 }

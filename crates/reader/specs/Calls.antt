@@ -1,6 +1,6 @@
 -- What each call answers, and what it leaves. Assumes nothing.
-use Rattle.std.specs.Prelude.{◌≡◌, ℕ, ◌+◌, ◌-◌, ◌*◌, ◌≤◌, min, Bool, true, cond, ◌&&◌, List, [], ◌∷◌, ◌++◌, length, take, drop, Some, None, Ok, Err, Option, Result, nat_le, nat_lt}
-use Rattle.std.specs.List.{slice_get}
+use Rattle.std.specs.Prelude.{◌≡◌, ℕ, ◌+◌, ◌-◌, ◌*◌, ◌≤◌, min, Bool, cond, ◌&&◌, List, [], ◌∷◌, ◌++◌, length, take, drop, Some, None, Ok, Err, Option, Result, nat_le, nat_lt}
+use Rattle.std.specs.List.{list_all, slice_get}
 use Rattle.pages.specs.Shape.{Alternatives, Cells, Lines}
 use Rattle.pages.specs.Reading.{onward, read_page}
 use Rattle.pages.specs.Writing.{line_bytes, page_bytes}
@@ -17,12 +17,10 @@ use Rattle.reader.specs.Views.{View, loaded}
 
 -- no penalty of the cell is above the highest
 abbrev pub light : ℕ → Alternatives → Bool
-light highest [] = true
-light highest (a ∷ c) = nat_le a.penalty highest && light highest c
+light highest c = list_all (λ a. nat_le a.penalty highest) c
 
 abbrev pub all_light : ℕ → Cells → Bool
-all_light highest [] = true
-all_light highest (c ∷ l) = light highest c && all_light highest l
+all_light highest l = list_all (light highest) l
 
 -- the score takes the line: no more cells than its most, and no penalty above its highest
 abbrev pub takes : Meaning → Cells → Bool

@@ -21,6 +21,7 @@ pub struct Reader<G, S: Score> {
     score: S,
     bench: Bench<S>,
     line: Option<Line>,
+    // `load` alone clears these four, and `View` has them one by one: a struct around them would say no more.
     granted: usize,
     looked: usize,
     handed: usize,
@@ -28,7 +29,7 @@ pub struct Reader<G, S: Score> {
 }
 
 // What a next comes to; what is found has as many bytes as the line has cells.
-#[derive(Clone, Copy)]
+#[derive(Clone, Copy, Debug, PartialEq, Eq)]
 pub enum Outcome {
     Found(usize),
     Spent,
@@ -37,7 +38,7 @@ pub enum Outcome {
 
 // How many cells the line has, and how many chains were granted, looked at and handed out since it was loaded; and how
 // many places of the bench are in use.
-#[derive(Clone, Copy)]
+#[derive(Clone, Copy, Debug, PartialEq, Eq)]
 pub struct Report {
     pub cells: usize,
     pub granted: usize,
@@ -46,38 +47,29 @@ pub struct Report {
     pub places: usize,
 }
 
-// Whether no penalty of the cell is above the highest.
-fn is_light(cell: &Cell, highest: u16) -> bool
-    ensures { result ≡ light highest (cell_of cell.now) }
+// Whether no penalty of the cell is above the highest that the score takes.
+fn is_light<S: Score>(cell: &Cell) -> bool
+    ensures { result ≡ light S.meaning.highest_penalty (cell_of cell.now) }
 {
-    for alternative in cell.alternatives() {
-        if alternative.penalty > highest {
-            return false;
-        }
-    }
-    true
+    cell.alternatives()
+        .iter()
+        .all(|alternative| alternative.penalty <= S::HIGHEST_PENALTY)
 }
 
 // Whether the score takes the line: its number of cells, and each penalty.
 fn is_taken<S: Score>(line: &Line) -> bool
-    ensures { result ≡ takes S.Score.meaning (line_of line.now) }
+    ensures { result ≡ takes S.meaning (line_of line.now) }
 {
     let cells = line.cells();
-    if cells.len() > S::cells_taken() {
-        return false;
-    }
-    for cell in cells {
-        if !is_light(cell, S::penalty_taken()) {
-            return false;
-        }
-    }
-    true
+    cells.len() <= S::MOST_CELLS && cells.iter().all(|cell| is_light::<S>(cell))
 }
 
+// That a reader agrees with its bench is a named condition, `Agrees`, and no invariant of the type. What is kept, and that a
+// refusal alters nothing, is each call's own promise.
 impl<G: Grammar + Drop, S: Score + Drop> Reader<G, S> {
     // A reader without a line. This is the only moment when memory can be wanting.
     pub fn new(heap: Global, grammar: G, score: S) -> Result<Reader<G, S>, AllocError>
-        ensures { IfOk result (λ x. (x.grammar ≡ grammar) × (x.score ≡ score) × (view x ≡ unloaded) × Agrees S.Score.meaning (G.Grammar.meaning grammar) x) }
+        ensures { IfOk result (λ x. (x.grammar ≡ grammar) × (x.score ≡ score) × (view x ≡ unloaded) × Agrees S.meaning (G.meaning grammar) x) }
     {
         let bench = Bench::new(heap)?;
         Ok(Reader {
@@ -94,18 +86,15 @@ impl<G: Grammar + Drop, S: Score + Drop> Reader<G, S> {
 
     // Takes the line of a page. The whole page is judged first, then the line number, then the line by the score.
     pub fn load(&mut self, page: &[u8], number: usize) -> Result<(), Refusal>
-        requires agrees { Agrees S.Score.meaning (G.Grammar.meaning self.old.grammar) self.old }
-        ensures answer { result ≡ answered (loading S.Score.meaning page.now number) }
-        ensures state { view self.new ≡ loaded_into (view self.old) (loading S.Score.meaning page.now number) }
-        ensures same_bytes { FromPage page.now number (loading S.Score.meaning page.now number) }
-        ensures agrees { Agrees S.Score.meaning (G.Grammar.meaning self.old.grammar) self.new }
+        requires agrees { Agrees S.meaning (G.meaning self.old.grammar) self.old }
+        ensures answer { result ≡ answered (loading S.meaning page.now number) }
+        ensures state { view self.new ≡ loaded_into (view self.old) (loading S.meaning page.now number) }
+        ensures same_bytes { FromPage page.now number (loading S.meaning page.now number) }
+        ensures agrees { Agrees S.meaning (G.meaning self.old.grammar) self.new }
         ensures kept { Kept self.old self.new }
         ensures refused { OnErr result (self.new ≡ self.old) }
     {
-        let found = line_of_page(page, number)?;
-        let Some(line) = found else {
-            return Err(Refusal::LineNumber);
-        };
+        let line = line_of_page(page, number)?.ok_or(Refusal::LineNumber)?;
         if !is_taken::<S>(&line) {
             return Err(Refusal::Score);
         }
@@ -120,18 +109,15 @@ impl<G: Grammar + Drop, S: Score + Drop> Reader<G, S> {
 
     // Lets so many more chains be looked at.
     pub fn grant(&mut self, chains: usize) -> Result<(), Refusal>
-        requires agrees { Agrees S.Score.meaning (G.Grammar.meaning self.old.grammar) self.old }
+        requires agrees { Agrees S.meaning (G.meaning self.old.grammar) self.old }
         ensures answer { result ≡ granting (view self.old) chains }
         ensures state { view self.new ≡ granted_more (view self.old) chains (granting (view self.old) chains) }
-        ensures agrees { Agrees S.Score.meaning (G.Grammar.meaning self.old.grammar) self.new }
+        ensures agrees { Agrees S.meaning (G.meaning self.old.grammar) self.new }
         ensures kept { Kept self.old self.new }
         ensures refused { OnErr result (self.new ≡ self.old) }
     {
-        let Some(line) = &self.line else {
-            return Err(Refusal::NoLine);
-        };
-        let cells = line.cells().len();
-        if chains < 1 || chains > MOST_GRANTED || cells * (self.granted + chains) > MOST_GRANTED {
+        let cells = self.line.as_ref().ok_or(Refusal::NoLine)?.cells().len();
+        if !(1..=MOST_GRANTED).contains(&chains) || cells * (self.granted + chains) > MOST_GRANTED {
             return Err(Refusal::Grant);
         }
         self.granted += chains;
@@ -140,17 +126,15 @@ impl<G: Grammar + Drop, S: Score + Drop> Reader<G, S> {
 
     // Looks at live chains in their order, up to the first admissible one, which it writes.
     pub fn next(&mut self, place: &mut [u8]) -> Result<Outcome, Refusal>
-        requires agrees { Agrees S.Score.meaning (G.Grammar.meaning self.old.grammar) self.old }
-        ensures answer { result ≡ (next_of S.Score.meaning (G.Grammar.meaning self.old.grammar) (view self.old) place.old).answer }
-        ensures state { view self.new ≡ (next_of S.Score.meaning (G.Grammar.meaning self.old.grammar) (view self.old) place.old).state }
-        ensures place { place.new ≡ (next_of S.Score.meaning (G.Grammar.meaning self.old.grammar) (view self.old) place.old).place }
-        ensures agrees { Agrees S.Score.meaning (G.Grammar.meaning self.old.grammar) self.new }
+        requires agrees { Agrees S.meaning (G.meaning self.old.grammar) self.old }
+        ensures answer { result ≡ (next_of S.meaning (G.meaning self.old.grammar) (view self.old) place.old).answer }
+        ensures state { view self.new ≡ (next_of S.meaning (G.meaning self.old.grammar) (view self.old) place.old).state }
+        ensures place { place.new ≡ (next_of S.meaning (G.meaning self.old.grammar) (view self.old) place.old).place }
+        ensures agrees { Agrees S.meaning (G.meaning self.old.grammar) self.new }
         ensures kept { Kept self.old self.new }
         ensures refused { OnErr result (self.new ≡ self.old) }
     {
-        let Some(line) = &self.line else {
-            return Err(Refusal::NoLine);
-        };
+        let line = self.line.as_ref().ok_or(Refusal::NoLine)?;
         let cells = line.cells().len();
         if place.len() < cells {
             return Err(Refusal::Place);
@@ -163,7 +147,7 @@ impl<G: Grammar + Drop, S: Score + Drop> Reader<G, S> {
             Some(reading) => {
                 self.handed += 1;
                 self.last_total = Some(reading.total);
-                place[0..cells].copy_from_slice(&reading.text[0..cells]);
+                place[..cells].copy_from_slice(&reading.text[..cells]);
                 Ok(Outcome::Found(cells))
             }
             None if self.bench.is_empty() => Ok(Outcome::Exhausted),
@@ -172,15 +156,11 @@ impl<G: Grammar + Drop, S: Score + Drop> Reader<G, S> {
     }
 
     pub fn report(&self) -> Report
-        requires agrees { Agrees S.Score.meaning (G.Grammar.meaning self.now.grammar) self.now }
+        requires agrees { Agrees S.meaning (G.meaning self.now.grammar) self.now }
         ensures { Reports (view self.now) result }
     {
-        let cells = match &self.line {
-            Some(line) => line.cells().len(),
-            None => 0,
-        };
         Report {
-            cells,
+            cells: self.line.as_ref().map_or(0, |line| line.cells().len()),
             granted: self.granted,
             looked: self.looked,
             handed: self.handed,
@@ -201,9 +181,7 @@ impl<G: Grammar + Drop, S: Score + Drop> Reader<G, S> {
         ensures place { place.new ≡ (writing (view self.now).line place.old).1 }
         ensures reads_back { ReadsBack result (view self.now).line place.new }
     {
-        let Some(line) = &self.line else {
-            return Err(Refusal::NoLine);
-        };
+        let line = self.line.as_ref().ok_or(Refusal::NoLine)?;
         Ok(write_line(line, place)?)
     }
 }

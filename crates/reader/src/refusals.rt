@@ -7,7 +7,7 @@ use pages::{PageFault, PlaceFault};
 
 // The page is bad, with its whole fault; the score does not take the line; no line is loaded; the grant is 0 or too
 // large; the place is too short; the page has no line of the number.
-#[derive(Clone, Copy)]
+#[derive(Clone, Copy, Debug, PartialEq, Eq)]
 pub enum Refusal {
     Page(PageFault),
     Score,
@@ -18,7 +18,7 @@ pub enum Refusal {
 }
 
 impl Refusal {
-    // The number that is returned.
+    // The number that is returned, by docs/reader.md. A `match`, since that of a bad page is that of its fault.
     pub fn number(&self) -> u8
         ensures { result ≡ number_of self.now }
     {
@@ -33,6 +33,7 @@ impl Refusal {
     }
 }
 
+// Written out, as a derived `From` says nothing of what it gives.
 impl From<PageFault> for Refusal {
     ghost from_gives = { λ e r. r ≡ Refusals.Page e };
 
@@ -41,6 +42,7 @@ impl From<PageFault> for Refusal {
     }
 }
 
+// The fault says no more than the case, so it is not held.
 impl From<PlaceFault> for Refusal {
     ghost from_gives = { λ _ r. r ≡ Refusals.Place };
 

@@ -3,7 +3,8 @@ use crate::answers::*;
 use grammars::angle::Axis;
 use grammars::sheet::Sheet;
 use grammars::{Both, Then};
-use runs::run;
+use reader::Outcome;
+use runs::{Answer, run};
 use scores::Sum;
 use std::test::Fail;
 
@@ -44,9 +45,10 @@ fn best_pair_on_the_sheet(rt: HostRuntime) -> Result<(), Fail> {
         next(0, 17),
     ];
     run(rt.alloc(), grammar, Sum, POSITIONS, &mut places, &mut rows)?;
-    found(&rt, &rows[2], &places[0..17], b"5000000N00500000W")?;
+    found(&rt, &rows[2], &places[0..17], b"5000000N00500000W");
     reported(&rt, &rows[3], 17, 10, 3, 1)?;
-    found(&rt, &rows[4], &places[17..34], b"5100000N00500000W")?;
+    found(&rt, &rows[4], &places[17..34], b"5100000N00500000W");
     reported(&rt, &rows[5], 17, 10, 4, 2)?;
-    exhausted(&rows[6])
+    answered(&rt, &rows[6], Answer::Next(Outcome::Exhausted));
+    Ok(())
 }

@@ -4,7 +4,8 @@ ghost use Rattle.std.proofs.Common.{rules};
 
 use crate::answers::*;
 use grammars::Grammar;
-use runs::run;
+use reader::Outcome;
+use runs::{Answer, run};
 use scores::{Shares, Sum};
 use std::test::Fail;
 
@@ -43,11 +44,12 @@ fn equal_totals(rt: HostRuntime) -> Result<(), Fail> {
         next(0, 2),
     ];
     run(rt.alloc(), Anything, Sum, TWO_CELLS, &mut places, &mut rows)?;
-    found(&rt, &rows[2], &places[0..2], b"11")?;
-    found(&rt, &rows[3], &places[2..4], b"12")?;
-    found(&rt, &rows[4], &places[4..6], b"21")?;
-    found(&rt, &rows[5], &places[6..8], b"22")?;
-    exhausted(&rows[6])
+    found(&rt, &rows[2], &places[0..2], b"11");
+    found(&rt, &rows[3], &places[2..4], b"12");
+    found(&rt, &rows[4], &places[4..6], b"21");
+    found(&rt, &rows[5], &places[6..8], b"22");
+    answered(&rt, &rows[6], Answer::Next(Outcome::Exhausted));
+    Ok(())
 }
 
 // Under Shares the totals are 100 × 100, 97 × 100 twice and 97 × 97: the larger comes first.
@@ -70,10 +72,10 @@ fn larger_is_better(rt: HostRuntime) -> Result<(), Fail> {
         &mut places,
         &mut rows,
     )?;
-    found(&rt, &rows[2], &places[0..2], b"11")?;
-    found(&rt, &rows[3], &places[2..4], b"12")?;
-    found(&rt, &rows[4], &places[4..6], b"21")?;
-    spent(&rows[5])?;
+    found(&rt, &rows[2], &places[0..2], b"11");
+    found(&rt, &rows[3], &places[2..4], b"12");
+    found(&rt, &rows[4], &places[4..6], b"21");
+    answered(&rt, &rows[5], Answer::Next(Outcome::Spent));
     assert_eq!(rt; places[6], 0, "spent writes nothing");
     Ok(())
 }

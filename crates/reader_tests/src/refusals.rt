@@ -1,7 +1,8 @@
 // Which refusal a call is answered by, where several conditions fail, and that a refusal changes nothing.
 use crate::answers::*;
 use grammars::date::Date;
-use runs::run;
+use reader::Outcome;
+use runs::{Answer, run};
 use scores::{Shares, Sum};
 use std::test::Fail;
 
@@ -63,7 +64,8 @@ fn highest_penalty(rt: HostRuntime) -> Result<(), Fail> {
     run(rt.alloc(), Date, Shares, DEAR_CELL, &mut places, &mut rows)?;
     refused(&rt, &rows[0], 7)?;
     run(rt.alloc(), Date, Sum, DEAR_CELL, &mut places, &mut rows)?;
-    loaded(&rows[0])
+    answered(&rt, &rows[0], Answer::Loaded);
+    Ok(())
 }
 
 // A place shorter than the line's cells; a grant of 0; one too large by one. None of them changes what is reported.
@@ -83,15 +85,15 @@ fn nothing_changes(rt: HostRuntime) -> Result<(), Fail> {
         report(),
     ];
     run(rt.alloc(), Date, Sum, DATE_PAGE, &mut places, &mut rows)?;
-    loaded(&rows[0])?;
+    answered(&rt, &rows[0], Answer::Loaded);
     refused(&rt, &rows[1], 9)?;
     refused(&rt, &rows[2], 9)?;
-    granted(&rows[3])?;
+    answered(&rt, &rows[3], Answer::Granted);
     refused(&rt, &rows[4], 9)?;
     refused(&rt, &rows[5], 10)?;
     refused(&rt, &rows[6], 13)?;
     reported(&rt, &rows[7], 8, 511, 0, 0)?;
-    found(&rt, &rows[8], &places, b"20022023")?;
+    found(&rt, &rows[8], &places, b"20022023");
     reported(&rt, &rows[9], 8, 511, 3, 1)
 }
 
@@ -113,8 +115,8 @@ fn loading_again(rt: HostRuntime) -> Result<(), Fail> {
     ];
     run(rt.alloc(), Date, Sum, DATE_PAGE, &mut places, &mut rows)?;
     reported(&rt, &rows[4], 8, 0, 0, 0)?;
-    spent(&rows[5])?;
-    found(&rt, &rows[7], &places, b"20022023")?;
-    spent(&rows[8])?;
+    answered(&rt, &rows[5], Answer::Next(Outcome::Spent));
+    found(&rt, &rows[7], &places, b"20022023");
+    answered(&rt, &rows[8], Answer::Next(Outcome::Spent));
     reported(&rt, &rows[9], 8, 3, 3, 1)
 }

@@ -1,4 +1,4 @@
-pub mod Nexts
+pub mod Parts
 pub mod Histories
 pub mod Moments
 pub mod Onward

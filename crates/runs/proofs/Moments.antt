@@ -1,158 +1,173 @@
--- What each call makes of a history, from what its contract says. Assumes nothing.
-use Rattle.std.proofs.Common.{◌≡◌, ℕ, zero, suc, ◌+◌, ◌-◌, ◌<◌, ◌≤◌, min, false, List, [], ◌∷◌, ◌++◌, length, take, drop, Some, Ok, Err, Option, sym, refl, ap, ◌∙◌, subst, ⊎_elim, append_assoc, arith, length-drop, take-append-drop, length-take}
-use Rattle.std.specs.List.{AllByRecursion}
-use Rattle.std.proofs.lemmas.List.{take_all, drop_all, drop-drop}
-use Rattle.std.proofs.lemmas.Bool.{cases_lt}
+-- What each call makes of a history, by what its contract says that it comes to. Assumes nothing.
+use Rattle.std.proofs.Common.{◌≡◌, ℕ, ◌+◌, ◌-◌, ◌≤◌, min, Bool, true, false, cond, ltb, List, ◌∷◌, ◌++◌, length, take, drop, Some, None, Ok, Err, Option, Result, sym, refl, ap, ◌∙◌, subst, subst₂, arith}
+use Rattle.std.specs.Result.{result_map_both}
+use Rattle.std.proofs.lemmas.Bool.{ltb-true, ltb-false}
 use Rattle.scores.specs.Scores.{Meaning, Laws}
 use Rattle.grammars.specs.Grammars as grammars
 use Rattle.grammars.specs.Grammars.{Sets}
 use Rattle.pages.specs.Shape.{Cells}
-use Rattle.search.specs.Chains.{Chain, text, ranking}
+use Rattle.search.specs.Chains.{Chain, text}
 use Rattle.reader.specs.declared.calls.Outcome.{Outcome}
-use Rattle.reader.specs.declared.calls.Outcome.TheVariants.{Found, Spent, Exhausted}
+use Rattle.reader.specs.declared.calls.Outcome.TheVariants.{Spent, Exhausted}
 use Rattle.reader.specs.declared.calls.Report.{Report}
 use Rattle.reader.specs.declared.refusals.Refusal.{Refusal}
+use Rattle.reader.specs.declared.refusals.Refusal.TheVariants as refusal
 use Rattle.runs.specs.declared.rows.Part.{Part}
+use Rattle.runs.specs.declared.rows.Call.{Call}
 use Rattle.runs.specs.declared.rows.Call.TheVariants as call
+use Rattle.runs.specs.declared.rows.Answer.{Answer}
 use Rattle.runs.specs.declared.rows.Answer.TheVariants as answer
-use Rattle.bench.specs.Searched.{admitted, due}
-use Rattle.bench.proofs.Searches.{FirstPassing, due_chain}
-use Rattle.reader.specs.Views.{View, loaded as loaded-view}
-use Rattle.reader.specs.Calls.{loading, granting_to, Reports, cells_of, PlacesInUse}
-use Rattle.runs.specs.Rows.{answer_of}
-use Rattle.runs.specs.Runs.{loaded, granted, found, spent, exhausted, reported, refused, moment, line_in, granted_in, looked_in, live_chains, cut, overwritten, NextRefused, CallMade, load_taken, load_refused, grant_taken, grant_refused, next_found, next_spent, next_exhausted, next_refused, report_made}
-use Rattle.runs.specs.Steps.{Tracks, Made}
-use Rattle.runs.proofs.Nexts.{ComesTo}
+use Rattle.bench.specs.Searched.{admitted, due, first_passing}
+use Rattle.bench.proofs.Searches.{passing_first, passing_none, due_chain}
 use Rattle.bench.proofs.Texts.{text_long}
-use Rattle.runs.proofs.Histories.{refused_lawful, refused_tracks, reported_lawful, reported_tracks, granted_lawful, granted_tracks, loaded_lawful, loaded_tracks, spent_lawful, spent_tracks, exhausted_lawful, exhausted_tracks, found_lawful, found_tracks}
+use Rattle.reader.specs.Views.{View}
+use Rattle.reader.specs.Calls.{loading, answered, loaded_into, granting, granting_to, granted_more, Nexted, refuse_next, next_came, next_on, next_of, Reports, cells_of, PlacesInUse}
+use Rattle.runs.specs.Runs.{Reported, loaded, granted, found, spent, exhausted, reported, refused, Moment, moment, line_in, granted_in, handed_in, looked_in, live_chains, Lawful, cut, overwritten, NextRefused, CallMade, load_taken, load_refused, grant_taken, grant_refused, next_found, next_spent, next_exhausted, next_refused, report_made}
+use Rattle.runs.specs.Steps.{Tracks, Made}
+use Rattle.runs.proofs.Parts.{cut_is, put_is, overwritten_rest, overwritten_same}
+use Rattle.runs.proofs.Histories.{NoneAdmitted, tracks_after, refused_lawful, reported_lawful, granted_lawful, loaded_lawful, spent_lawful, exhausted_lawful, found_lawful}
 
--- a part of lent bytes, as code takes it
-module _ (bytes : List ℕ) (part : Part) (begin end : ℕ) (b : begin ≡ min part.start (length bytes)) (e : end ≡ min part.start (length bytes) + min part.length (length bytes - min part.start (length bytes))) where
-  drop_is : drop begin bytes ≡ drop part.start bytes
-  drop_is = ⊎_elim
-      (λ (lt : part.start < length bytes). let q : begin ≡ part.start = omega arith in ap (λ n. drop n bytes) q)
-      (λ (le : length bytes ≤ part.start). drop_all begin bytes (omega arith) ∙ sym (drop_all part.start bytes le))
-      (cases_lt part.start (length bytes))
+-- What a call comes to: its answer, what is then seen of the reader, and the places.
+pub record Step : Type 0 where
+  pub answer : Result Answer Refusal
+  pub state : View
+  pub places : List ℕ
 
-  take_is : take begin bytes ≡ take part.start bytes
-  take_is = ⊎_elim
-      (λ (lt : part.start < length bytes). let q : begin ≡ part.start = omega arith in ap (λ n. take n bytes) q)
-      (λ (le : length bytes ≤ part.start). take_all begin bytes (omega arith) ∙ sym (take_all part.start bytes le))
-      (cases_lt part.start (length bytes))
+abbrev pub answering : {T : Type 0} → (T → Answer) → Result T Refusal → Result Answer Refusal
+answering f = result_map_both f (λ r. r)
 
-  size_is : end - begin ≡ min part.length (length (drop part.start bytes))
-  size_is = omega (arith, length-drop part.start bytes)
+abbrev pub load_step : View → List ℕ → Result Cells Refusal → Step
+load_step v places r = record { answer = answering (λ done. answer.Loaded) (answered r); state = loaded_into v r; places = places }
 
-  pub cut_is : take (end - begin) (drop begin bytes) ≡ cut bytes part
-  cut_is = ap (λ n. take n (drop begin bytes)) size_is ∙ ap (take (min part.length (length (drop part.start bytes)))) drop_is ∙ least
+abbrev pub grant_step : View → List ℕ → ℕ → Result (Unit {0}) Refusal → Step
+grant_step v places n r = record { answer = answering (λ done. answer.Granted) r; state = granted_more v n r; places = places }
+
+abbrev pub next_step : List ℕ → Part → Nexted → Step
+next_step places part x = record { answer = answering answer.Next x.answer; state = x.state; places = overwritten places part x.place }
+
+abbrev pub report_step : View → List ℕ → Report → Step
+report_step v places r = record { answer = Ok (answer.Reported r); state = v; places = places }
+
+-- what is seen of the reader after h
+abbrev seen_after : List Moment → Option ℕ → View
+seen_after h last = record { line = line_in h; granted = granted_in h; looked = looked_in h; handed = length (handed_in h); last_total = last }
+
+module _ (s : Meaning) (g : Sets) (pages places : List ℕ) where
+  abbrev pub Makes : View → Call → Step → Type 0
+  Makes v c x = Made s g pages v places c x.answer x.state x.places
+
+  -- the same of one history alone
+  abbrev MakesAfter : List Moment → Call → Step → Type 0
+  MakesAfter h c x = (m : Moment) × CallMade s g pages h places c x.answer m x.places × Lawful s g h m × Tracks s g (m ∷ h) x.state
+
+  -- it is enough to show it of what is seen after a history
+  makes_seen : (c : Call) (x : View → Step) → ((h : List Moment) (last : Option ℕ) → Tracks s g h (seen_after h last) → MakesAfter h c (x (seen_after h last))) → (v : View) → Makes v c (x v)
+  makes_seen c x makes v h t = subst (λ v. MakesAfter h c (x v)) (sym seen) (makes h v.last_total (subst (Tracks s g h) seen t))
     where
-      least : take (min part.length (length (drop part.start bytes))) (drop part.start bytes) ≡ take part.length (drop part.start bytes)
-      least = ⊎_elim
-          (λ (lt : part.length < length (drop part.start bytes)). let q : min part.length (length (drop part.start bytes)) ≡ part.length = omega arith in ap (λ n. take n (drop part.start bytes)) q)
-          (λ (le : length (drop part.start bytes) ≤ part.length). take_all _ (drop part.start bytes) (omega arith) ∙ sym (take_all part.length (drop part.start bytes) le))
-          (cases_lt part.length (length (drop part.start bytes)))
+      seen : v ≡ seen_after h v.last_total
+      seen = λ i. record { line = (sym t.line) i; granted = (sym t.granted_is) i; looked = (sym t.looked_is) i; handed = (sym t.handed_is) i; last_total = v.last_total }
 
-  -- nothing was written
-  pub put_same : (new : List ℕ) → new ≡ take (end - begin) (drop begin bytes) → take begin bytes ++ (new ++ drop (end - begin) (drop begin bytes)) ≡ bytes
-  put_same new q = ap (λ xs. take begin bytes ++ (xs ++ drop (end - begin) (drop begin bytes))) q ∙ ap (λ xs. take begin bytes ++ xs) (take-append-drop (end - begin) (drop begin bytes)) ∙ take-append-drop begin bytes
+  -- a call makes a lawful moment, and what is then seen of the reader is as the history says
+  makes_lawful : (h : List Moment) (c : Call) (x : Step) (m : Moment) → CallMade s g pages h places c x.answer m x.places → Lawful s g h m
+      → line_in (m ∷ h) ≡ x.state.line → granted_in (m ∷ h) ≡ x.state.granted → m.looked ≡ x.state.looked → length (handed_in (m ∷ h)) ≡ x.state.handed → MakesAfter h c x
+  makes_lawful h c x m made lawful el eg ek eh = (m, made, lawful, tracks_after x.state lawful el eg ek eh)
 
-  drop_join : (n k : ℕ) (xs : List ℕ) → n ≤ k → drop n (take k xs) ++ drop k xs ≡ drop n xs
-  drop_join zero k xs h = take-append-drop k xs
-  drop_join (suc n) zero xs h = absurd (omega arith)
-  drop_join (suc n) (suc k) [] h = refl
-  drop_join (suc n) (suc k) (x ∷ xs) h = drop_join n k xs (omega arith)
+  pub load_makes : (part : Part) (n : ℕ) (v : View) → Makes v (call.Load part n) (load_step v places (loading s (cut pages part) n))
+  load_makes part n = makes_seen (call.Load part n) (λ v. load_step v places (loading s (cut pages part) n)) (λ h last t. by_answer h last t _ refl)
+    where
+      by_answer : (h : List Moment) (last : Option ℕ) → Tracks s g h (seen_after h last) → (r : Result Cells Refusal) → loading s (cut pages part) n ≡ r → MakesAfter h (call.Load part n) (load_step (seen_after h last) places r)
+      by_answer h last t (Ok l) e = makes_lawful h _ _ (moment (loaded l) 0) (load_taken e) (loaded_lawful s g h (seen_after h last) t l) refl refl refl refl
+      by_answer h last t (Err r) e = makes_lawful h _ _ (moment refused (looked_in h)) (load_refused e) (refused_lawful s g h (seen_after h last) t) refl refl refl refl
 
-  -- t was written from the part's start
-  pub put_over : (new t : List ℕ) → length t ≤ length (cut bytes part) → new ≡ t ++ drop (length t) (take (end - begin) (drop begin bytes)) → take begin bytes ++ (new ++ drop (end - begin) (drop begin bytes)) ≡ overwritten bytes part t
-  put_over new t room q =
-      let short : length t ≤ end - begin = omega (arith, size_is, length-take part.length (drop part.start bytes)) in
-      (λ i. take_is i ++ (q i ++ drop (end - begin) (drop begin bytes)))
-      ∙ ap (λ xs. take part.start bytes ++ xs) (append_assoc t _ _ ∙ ap (λ xs. t ++ xs) (drop_join (length t) (end - begin) (drop begin bytes) short ∙ ap (drop (length t)) drop_is ∙ drop-drop (length t) part.start bytes))
+  pub grant_makes : (n : ℕ) (v : View) → Makes v (call.Grant n) (grant_step v places n (granting v n))
+  grant_makes n = makes_seen (call.Grant n) (λ v. grant_step v places n (granting v n)) (λ h last t. by_answer h last t _ refl)
+    where
+      by_answer : (h : List Moment) (last : Option ℕ) → Tracks s g h (seen_after h last) → (r : Result (Unit {0}) Refusal) → granting_to (line_in h) (granted_in h) n ≡ r → MakesAfter h (call.Grant n) (grant_step (seen_after h last) places n r)
+      by_answer h last t (Ok done) e = makes_lawful h _ _ (moment (granted n) (looked_in h)) (grant_taken e) (granted_lawful s g h (seen_after h last) t n) refl refl refl refl
+      by_answer h last t (Err r) e = makes_lawful h _ _ (moment refused (looked_in h)) (grant_refused e) (refused_lawful s g h (seen_after h last) t) refl refl refl refl
 
-module _ (s : Meaning) (g : Sets) (pages : List ℕ) (v v' : View) (places : List ℕ) where
-  pub load_made : (part : Part) (n : ℕ) (l : Cells) → loading s (cut pages part) n ≡ Ok l → v' ≡ loaded-view l → Made s g pages v places (call.Load part n) answer.Loaded v' places
-  load_made part n l e is h t = (moment (loaded l) 0, load_taken e, loaded_lawful s g h v t l, subst (Tracks s g (moment (loaded l) 0 ∷ h)) (sym is) (loaded_tracks s g h v t l))
+  pub report_makes : (r : Report) (v : View) → Reports v r → Makes v call.Report (report_step v places r)
+  report_makes r v q h t = makes_lawful h _ _ (moment reported (looked_in h)) (report_made told) (reported_lawful s g h v t) t.line t.granted_is t.looked_is t.handed_is
+    where
+      told : Reported h r
+      told = record {
+        cells = q.cells ∙ ap cells_of (sym t.line);
+        granted_is = q.granted ∙ sym t.granted_is;
+        looked_is = q.looked ∙ sym t.looked_is;
+        handed_is = q.handed ∙ sym t.handed_is;
+        places = subst₂ (λ o k. PlacesInUse o k r.places) (sym t.line) (sym t.looked_is) q.places;
+      }
 
-  pub load_not : (part : Part) (n : ℕ) (r : Refusal) → loading s (cut pages part) n ≡ Err r → v' ≡ v → Made s g pages v places (call.Load part n) (answer.Refused r) v' places
-  load_not part n r why is h t = (moment refused (looked_in h), load_refused why, refused_lawful s g h v t, subst (Tracks s g (moment refused (looked_in h) ∷ h)) (sym is) (refused_tracks s g h v t))
+  module _ (laws : Laws s) (lawful : grammars.Lawful g) (part : Part) where
+    module _ (h : List Moment) (last : Option ℕ) (t : Tracks s g h (seen_after h last)) where
+      abbrev v : View
+      v = seen_after h last
 
-  pub grant_made : (n : ℕ) → granting_to v.line v.granted n ≡ Ok tt → v' ≡ record { line = v.line; granted = v.granted + n; looked = v.looked; handed = v.handed; last_total = v.last_total }
-      → Made s g pages v places (call.Grant n) answer.Granted v' places
-  grant_made n e is h t =
-      (moment (granted n) (looked_in h), grant_taken ((λ i. granting_to (t.line i) (t.granted_is i) n) ∙ e), granted_lawful s g h v t n, subst (Tracks s g (moment (granted n) (looked_in h) ∷ h)) (sym is) (granted_tracks s g h v t n))
+      abbrev Nexts : Nexted → Type 0
+      Nexts x = MakesAfter h (call.Next part) (next_step places part x)
 
-  pub grant_not : (n : ℕ) (r : Refusal) → granting_to v.line v.granted n ≡ Err r → v' ≡ v → Made s g pages v places (call.Grant n) (answer.Refused r) v' places
-  grant_not n r e is h t =
-      (moment refused (looked_in h), grant_refused ((λ i. granting_to (t.line i) (t.granted_is i) n) ∙ e), refused_lawful s g h v t, subst (Tracks s g (moment refused (looked_in h) ∷ h)) (sym is) (refused_tracks s g h v t))
+      -- where nothing is written
+      same_place : {a : Result Answer Refusal} {m : Moment} → CallMade s g pages h places (call.Next part) a m places → CallMade s g pages h places (call.Next part) a m (overwritten places part (cut places part))
+      same_place {a = a} {m = m} = subst (CallMade s g pages h places (call.Next part) a m) (sym (overwritten_same places part))
 
-  pub report_tells : (r : Report) → Reports v r → v' ≡ v → Made s g pages v places call.Report (answer.Reported r) v' places
-  report_tells r q is h t = (
-    moment reported (looked_in h),
-    report_made (record {
-      cells = q.cells ∙ ap cells_of (sym t.line);
-      granted_is = q.granted ∙ sym t.granted_is;
-      looked_is = q.looked ∙ sym t.looked_is;
-      handed_is = q.handed ∙ sym t.handed_is;
-      places = subst (λ o. PlacesInUse o (looked_in h) r.places) (sym t.line) (subst (λ k. PlacesInUse v.line k r.places) (sym t.looked_is) q.places);
-    }),
-    reported_lawful s g h v t,
-    subst (Tracks s g (moment reported (looked_in h) ∷ h)) (sym is) (reported_tracks s g h v t),
-  )
+      next_not : (r : Refusal) → NextRefused (line_in h) (cut places part) r → Nexts (refuse_next v (cut places part) r)
+      next_not r why = makes_lawful h _ _ (moment refused (looked_in h)) (same_place (next_refused why)) (refused_lawful s g h v t) refl refl refl refl
 
-  pub next_not : (part : Part) (r : Refusal) (places' : List ℕ) → NextRefused v.line (cut places part) r → v' ≡ v → places' ≡ places → Made s g pages v places (call.Next part) (answer.Refused r) v' places'
-  next_not part r places' why is left h t = (
-    moment refused (looked_in h),
-    subst (CallMade s g pages h places (call.Next part) (answer.Refused r) (moment refused (looked_in h))) (sym left) (next_refused (subst (λ o. NextRefused o (cut places part) r) (sym t.line) why)),
-    refused_lawful s g h v t,
-    subst (Tracks s g (moment refused (looked_in h) ∷ h)) (sym is) (refused_tracks s g h v t),
-  )
+      module _ (l : Cells) (el : line_in h ≡ Some l) where
+        module _ (room : length l ≤ length (cut places part)) where
+          -- nothing found, and a live chain left or not
+          left_or_not : NoneAdmitted g l (due s g l (looked_in h) (granted_in h)) → (b : Bool) → ltb (granted_in h) (length (live_chains s g l)) ≡ b
+              → Nexts (record { answer = Ok (cond b Spent Exhausted); state = record { line = v.line; granted = v.granted; looked = min (granted_in h) (length (live_chains s g l)); handed = v.handed; last_total = last }; place = cut places part })
+          left_or_not none true q =
+              let left = ltb-true (granted_in h) (length (live_chains s g l)) q in
+              makes_lawful h _ _ (moment spent (granted_in h)) (same_place (next_spent el room)) (spent_lawful s laws g lawful l h v t el left none) refl refl (omega arith) refl
+          left_or_not none false q =
+              let end = ltb-false (granted_in h) (length (live_chains s g l)) q in
+              makes_lawful h _ _ (moment exhausted (length (live_chains s g l))) (same_place (next_exhausted el room)) (exhausted_lawful s laws g lawful l h v t el end none) refl refl (omega arith) refl
 
-  module _ (laws : Laws s) (lawful : grammars.Lawful g) (part : Part) (places' : List ℕ) (l : Cells) (line : v.line ≡ Some l) (room : length l ≤ length (cut places part)) where
-    pub spent_made : AllByRecursion (λ d. admitted g l d ≡ false) (due s g l v.looked v.granted) → v.granted < length (ranking s g.allows l) → places' ≡ places
-        → v' ≡ record { line = v.line; granted = v.granted; looked = v.granted; handed = v.handed; last_total = v.last_total } → Made s g pages v places (call.Next part) answer.Spent v' places'
-    spent_made none left same is h t =
-        let el : line_in h ≡ Some l = t.line ∙ line in
-        let none' : AllByRecursion (λ d. admitted g l d ≡ false) (due s g l (looked_in h) (granted_in h)) = subst (λ k. AllByRecursion (λ d. admitted g l d ≡ false) (due s g l k (granted_in h))) (sym t.looked_is) (subst (λ k. AllByRecursion (λ d. admitted g l d ≡ false) (due s g l v.looked k)) (sym t.granted_is) none) in
-        let left' : granted_in h < length (live_chains s g l) = omega (arith, t.granted_is) in (
-          moment spent (granted_in h),
-          subst (CallMade s g pages h places (call.Next part) answer.Spent (moment spent (granted_in h))) (sym same) (next_spent el room),
-          spent_lawful s laws g lawful l h v t el left' none',
-          spent_tracks s laws g lawful l h v t el v' left' none' (is ∙ ap (λ k. record { line = v.line; granted = v.granted; looked = k; handed = v.handed; last_total = v.last_total }) (sym t.granted_is)),
-        )
+          found_or_not : (o : Option (ℕ × Chain)) → first_passing (admitted g l) (due s g l (looked_in h) (granted_in h)) ≡ o → Nexts (next_came s l v (cut places part) (length (live_chains s g l)) o)
+          found_or_not (Some at) q =
+              let first = passing_first (admitted g l) (due s g l (looked_in h) (granted_in h)) at.0 at.1 q in
+              let long : length (text l at.1) ≡ length l = text_long l at.1 (due_chain s laws g l (looked_in h) (granted_in h) at.0 at.1 first).long in
+              let over = sym (overwritten_rest places part (text l at.1) (omega arith)) ∙ ap (λ n. overwritten places part (text l at.1 ++ drop n (cut places part))) long in
+              makes_lawful h _ _ (moment (found at.1) (looked_in h + at.0 + 1)) (subst (CallMade s g pages h places (call.Next part) _ _) over (next_found el room)) (found_lawful s laws g lawful l h v t el at.0 at.1 first) refl refl refl (omega arith)
+          found_or_not None q = left_or_not (passing_none (admitted g l) (due s g l (looked_in h) (granted_in h)) q) _ refl
 
-    pub exhausted_made : AllByRecursion (λ d. admitted g l d ≡ false) (due s g l v.looked v.granted) → length (ranking s g.allows l) ≤ v.granted → places' ≡ places
-        → v' ≡ record { line = v.line; granted = v.granted; looked = length (ranking s g.allows l); handed = v.handed; last_total = v.last_total } → Made s g pages v places (call.Next part) answer.Exhausted v' places'
-    exhausted_made none all same is h t =
-        let el : line_in h ≡ Some l = t.line ∙ line in
-        let none' : AllByRecursion (λ d. admitted g l d ≡ false) (due s g l (looked_in h) (granted_in h)) = subst (λ k. AllByRecursion (λ d. admitted g l d ≡ false) (due s g l k (granted_in h))) (sym t.looked_is) (subst (λ k. AllByRecursion (λ d. admitted g l d ≡ false) (due s g l v.looked k)) (sym t.granted_is) none) in
-        let all' : length (live_chains s g l) ≤ granted_in h = omega (arith, t.granted_is) in (
-          moment exhausted (length (live_chains s g l)),
-          subst (CallMade s g pages h places (call.Next part) answer.Exhausted (moment exhausted (length (live_chains s g l)))) (sym same) (next_exhausted el room),
-          exhausted_lawful s laws g lawful l h v t el all' none',
-          exhausted_tracks s laws g lawful l h v t el v' all' none' is,
-        )
+        place_or_not : (b : Bool) → ltb (length (cut places part)) (length l) ≡ b
+            → Nexts (cond b (refuse_next v (cut places part) refusal.Place) (next_came s l v (cut places part) (length (live_chains s g l)) (first_passing (admitted g l) (due s g l (looked_in h) (granted_in h)))))
+        place_or_not true q = next_not refusal.Place (subst (λ o. NextRefused o (cut places part) refusal.Place) (sym el) (refl, ltb-true _ _ q))
+        place_or_not false q = found_or_not (ltb-false _ _ q) _ refl
 
-    pub found_made : (n : ℕ) (c : Chain) (bytes : ℕ) (last : Option ℕ) → FirstPassing (admitted g l) (due s g l v.looked v.granted) n c → bytes ≡ length l → places' ≡ overwritten places part (text l c)
-        → v' ≡ record { line = v.line; granted = v.granted; looked = v.looked + n + 1; handed = v.handed + 1; last_total = last } → Made s g pages v places (call.Next part) (answer.Found bytes) v' places'
-    found_made n c bytes last first cells over is h t =
-        let el : line_in h ≡ Some l = t.line ∙ line in
-        let first' : FirstPassing (admitted g l) (due s g l (looked_in h) (granted_in h)) n c = subst (λ k. FirstPassing (admitted g l) (due s g l k (granted_in h)) n c) (sym t.looked_is) (subst (λ k. FirstPassing (admitted g l) (due s g l v.looked k) n c) (sym t.granted_is) first) in (
-          moment (found c) (looked_in h + n + 1),
-          subst (λ k. CallMade s g pages h places (call.Next part) (answer.Found k) (moment (found c) (looked_in h + n + 1)) places') (sym cells)
-              (subst (CallMade s g pages h places (call.Next part) (answer.Found (length l)) (moment (found c) (looked_in h + n + 1))) (sym over) (next_found el room)),
-          found_lawful s laws g lawful l h v t el n c first',
-          found_tracks s laws g lawful l h v t el n c first' v' last (is ∙ ap (λ k. record { line = v.line; granted = v.granted; looked = k + n + 1; handed = v.handed + 1; last_total = last }) (sym t.looked_is)),
-        )
+      line_or_not : (o : Option Cells) → line_in h ≡ o → Nexts (next_on s g v (cut places part) o)
+      line_or_not None e = next_not refusal.NoLine (subst (λ o. NextRefused o (cut places part) refusal.NoLine) (sym e) refl)
+      line_or_not (Some l) e = place_or_not l e _ refl
 
-    -- what a next on the part comes to
-    module _ (begin end : ℕ) (b : begin ≡ min part.start (length places)) (e : end ≡ min part.start (length places) + min part.length (length places - min part.start (length places))) (new : List ℕ)
-        (over : places' ≡ take begin places ++ (new ++ drop (end - begin) (drop begin places))) where
-      pub next_made : (outcome : Outcome) → ComesTo s g l v (take (end - begin) (drop begin places)) outcome v' new → Made s g pages v places (call.Next part) (answer_of outcome) v' places'
-      next_made (Found bytes) out =
-          let chain = due_chain s laws g l v.looked v.granted out.0 out.1 out.2 in
-          let long : length (text l out.1) ≡ length l = text_long l out.1 chain.long in
-          found_made out.0 out.1 bytes _ out.2 out.3
-          (over ∙ put_over places part begin end b e new (text l out.1) (omega arith) (out.4 ∙ ap (λ n. text l out.1 ++ drop n (take (end - begin) (drop begin places))) (sym long)))
-          out.5
-      next_made Spent out = spent_made out.0 out.1 (over ∙ put_same places part begin end b e new out.2) out.3
-      next_made Exhausted out = exhausted_made out.0 out.1 (over ∙ put_same places part begin end b e new out.2) out.3
+    pub next_makes : (v : View) → Makes v (call.Next part) (next_step places part (next_of s g v (cut places part)))
+    next_makes = makes_seen (call.Next part) (λ v. next_step places part (next_of s g v (cut places part))) (λ h last t. line_or_not h last t _ refl)
+
+  -- the same in other words
+  pub made_as : {v v' : View} {c c' : Call} {a : Result Answer Refusal} {after : List ℕ} {x : Step} → c ≡ c' → a ≡ x.answer → v' ≡ x.state → after ≡ x.places → Makes v c' x → Made s g pages v places c a v' after
+  made_as {v = v} {v' = v'} {c' = c'} {after = after} {x = x} ec ea ev ep made =
+      subst₂ (λ c a. Made s g pages v places c a v' after) (sym ec) (sym ea) (subst₂ (λ v' p. Made s g pages v places c' x.answer v' p) (sym ev) (sym ep) made)
+
+  -- of a load, a grant and a next, from the clauses of their contracts
+  pub load_told : {v v' : View} {c : Call} {a : Result Answer Refusal} {part : Part} {n begin end : ℕ} {r : Result (Unit {0}) Refusal} → c ≡ call.Load part n
+      → begin ≡ min part.start (length pages) → end ≡ begin + min part.length (length pages - begin)
+      → r ≡ answered (loading s (take (end - begin) (drop begin pages)) n) → v' ≡ loaded_into v (loading s (take (end - begin) (drop begin pages)) n)
+      → a ≡ answering (λ done. answer.Loaded) r → Made s g pages v places c a v' places
+  load_told {v = v} {part = part} {n = n} {begin = begin} {end = end} ec eb ee er ev ea =
+      let taken = ap (λ p. loading s p n) (cut_is pages part begin end eb ee) in
+      made_as ec (ea ∙ ap (answering (λ done. answer.Loaded)) (er ∙ ap answered taken)) (ev ∙ ap (loaded_into v) taken) refl (load_makes part n v)
+
+  pub grant_told : {v v' : View} {c : Call} {a : Result Answer Refusal} {n : ℕ} {r : Result (Unit {0}) Refusal} → c ≡ call.Grant n
+      → r ≡ granting v n → v' ≡ granted_more v n (granting v n) → a ≡ answering (λ done. answer.Granted) r → Made s g pages v places c a v' places
+  grant_told {v = v} {n = n} ec er ev ea = made_as ec (ea ∙ ap (answering (λ done. answer.Granted)) er) ev refl (grant_makes n v)
+
+  pub next_told : (laws : Laws s) (lawful : grammars.Lawful g) {v v' : View} {c : Call} {a : Result Answer Refusal} {part : Part} {begin end : ℕ} {place : List ℕ} {r : Result Outcome Refusal} → c ≡ call.Next part
+      → begin ≡ min part.start (length places) → end ≡ begin + min part.length (length places - begin) → length place ≡ length (take (end - begin) (drop begin places))
+      → r ≡ (next_of s g v (take (end - begin) (drop begin places))).answer → v' ≡ (next_of s g v (take (end - begin) (drop begin places))).state → place ≡ (next_of s g v (take (end - begin) (drop begin places))).place
+      → a ≡ answering answer.Next r → Made s g pages v places c a v' (take begin places ++ (place ++ drop (end - begin) (drop begin places)))
+  next_told laws lawful {v = v} {part = part} {begin = begin} {end = end} {place = place} ec eb ee long er ev ep ea =
+      let came = ap (next_of s g v) (cut_is places part begin end eb ee) in
+      made_as ec (ea ∙ ap (answering answer.Next) (er ∙ ap (λ x. x.answer) came)) (ev ∙ ap (λ x. x.state) came)
+      (put_is places part begin end eb ee place long ∙ ap (overwritten places part) (ep ∙ ap (λ x. x.place) came)) (next_makes laws lawful part v)

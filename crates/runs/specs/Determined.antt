@@ -1,8 +1,9 @@
 -- The law leaves nothing open: two runs of the same rows come to the same. Assumes nothing.
-use Rattle.std.specs.Prelude.{◌≡◌, ℕ, ◌⊎◌, List, [], ◌∷◌}
+use Rattle.std.specs.Prelude.{◌≡◌, ℕ, ◌⊎◌, List, [], ◌∷◌, Some, Ok, Option, Result}
 use Rattle.scores.specs.Scores.{Meaning}
 use Rattle.grammars.specs.Grammars.{Sets}
 use Rattle.reader.specs.declared.calls.Report.{Report}
+use Rattle.reader.specs.declared.refusals.Refusal.{Refusal}
 use Rattle.runs.specs.declared.rows.Answer.{Answer}
 use Rattle.runs.specs.declared.rows.Answer.TheVariants as answer
 use Rattle.runs.specs.declared.rows.Row.{Row}
@@ -16,8 +17,8 @@ pub record AlikeReport (r q : Report) : Type 0 where
   pub handed : r.handed ≡ q.handed
 
 -- the same answer, or two such reports
-abbrev pub AlikeAnswer : Answer → Answer → Type 0
-AlikeAnswer a b = (a ≡ b) ⊎ ((r : Report) × (q : Report) × (a ≡ answer.Reported r) × (b ≡ answer.Reported q) × AlikeReport r q)
+abbrev pub AlikeAnswer : Option (Result Answer Refusal) → Option (Result Answer Refusal) → Type 0
+AlikeAnswer a b = (a ≡ b) ⊎ ((r : Report) × (q : Report) × (a ≡ Some (Ok (answer.Reported r))) × (b ≡ Some (Ok (answer.Reported q))) × AlikeReport r q)
 
 -- as many rows, and row by row the same call with such answers
 abbrev pub AlikeRows : List Row → List Row → Type 0

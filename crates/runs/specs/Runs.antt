@@ -1,10 +1,11 @@
 -- Runs: what came of any list of calls on a new reader, and the law of each. Assumes nothing.
-use Rattle.std.specs.Prelude.{◌≡◌, ℕ, ◌+◌, ◌<◌, ◌≤◌, true, ◌⊎◌, ◌↔◌, List, [], ◌∷◌, ◌++◌, length, take, drop, Some, None, Ok, Err, Option}
+use Rattle.std.specs.Prelude.{◌≡◌, ℕ, ◌+◌, ◌<◌, ◌≤◌, true, ◌⊎◌, ◌↔◌, List, [], ◌∷◌, ◌++◌, length, take, drop, Some, None, Ok, Err, Option, Result}
 use Rattle.pages.specs.Shape.{Cells}
 use Rattle.scores.specs.Scores.{Meaning}
 use Rattle.grammars.specs.Grammars.{Sets}
 use Rattle.search.specs.Members.{Mem}
 use Rattle.search.specs.Chains.{Chain, ChainOf, text, before, ranking}
+use Rattle.reader.specs.declared.calls.Outcome.TheVariants.{Found, Spent, Exhausted}
 use Rattle.reader.specs.declared.calls.Report.{Report}
 use Rattle.reader.specs.declared.refusals.Refusal.{Refusal}
 use Rattle.reader.specs.declared.refusals.Refusal.TheVariants as refusal
@@ -38,12 +39,7 @@ moment e n = record { event = e; looked = n }
 -- A history lists moments, the newest first, and is read back to the last load that was taken. Its line:
 abbrev pub line_after : Event → Option Cells → Option Cells
 line_after (loaded l) o = Some l
-line_after (granted n) o = o
-line_after (found c) o = o
-line_after spent o = o
-line_after exhausted o = o
-line_after reported o = o
-line_after refused o = o
+line_after e o = o
 
 abbrev pub line_in : List Moment → Option Cells
 line_in [] = None
@@ -53,11 +49,7 @@ line_in (x ∷ h) = line_after x.event (line_in h)
 abbrev pub granted_after : Event → ℕ → ℕ
 granted_after (loaded l) k = 0
 granted_after (granted n) k = k + n
-granted_after (found c) k = k
-granted_after spent k = k
-granted_after exhausted k = k
-granted_after reported k = k
-granted_after refused k = k
+granted_after e k = k
 
 abbrev pub granted_in : List Moment → ℕ
 granted_in [] = 0
@@ -66,12 +58,8 @@ granted_in (x ∷ h) = granted_after x.event (granted_in h)
 -- the readings handed out since, the newest first
 abbrev pub handed_after : Event → List Chain → List Chain
 handed_after (loaded l) cs = []
-handed_after (granted n) cs = cs
 handed_after (found c) cs = c ∷ cs
-handed_after spent cs = cs
-handed_after exhausted cs = cs
-handed_after reported cs = cs
-handed_after refused cs = cs
+handed_after e cs = cs
 
 abbrev pub handed_in : List Moment → List Chain
 handed_in [] = []
@@ -84,32 +72,19 @@ looked_in (x ∷ h) = x.looked
 
 -- a next that was not refused, and one that found a reading
 abbrev pub IsNext : Event → Type 0
-IsNext (loaded l) = ⊥
-IsNext (granted n) = ⊥
 IsNext (found c) = Unit {0}
 IsNext spent = Unit {0}
 IsNext exhausted = Unit {0}
-IsNext reported = ⊥
-IsNext refused = ⊥
+IsNext e = ⊥
 
 abbrev pub IsFound : Event → Type 0
-IsFound (loaded l) = ⊥
-IsFound (granted n) = ⊥
 IsFound (found c) = Unit {0}
-IsFound spent = ⊥
-IsFound exhausted = ⊥
-IsFound reported = ⊥
-IsFound refused = ⊥
+IsFound e = ⊥
 
 -- none after a load, and else as many as before
 abbrev pub looked_still : Event → ℕ → ℕ
 looked_still (loaded l) k = 0
-looked_still (granted n) k = k
-looked_still (found c) k = k
-looked_still spent k = k
-looked_still exhausted k = k
-looked_still reported k = k
-looked_still refused k = k
+looked_still e k = k
 
 -- the live chains of a line in their order
 abbrev pub live_chains : Meaning → Sets → Cells → List Chain
@@ -168,32 +143,32 @@ NextRefused None place r = r ≡ refusal.NoLine
 NextRefused (Some l) place r = (r ≡ refusal.Place) × (length place < length l)
 
 -- ONE CALL after the history h: what it answers, the moment that it makes, and the places after it.
-pub data CallMade (s : Meaning) (g : Sets) (pages : List ℕ) (h : List Moment) (places : List ℕ) : Call → Answer → Moment → List ℕ → Type 0 where
+pub data CallMade (s : Meaning) (g : Sets) (pages : List ℕ) (h : List Moment) (places : List ℕ) : Call → Result Answer Refusal → Moment → List ℕ → Type 0 where
   load_taken : {part : Part} {n : ℕ} {l : Cells} → loading s (cut pages part) n ≡ Ok l
-      → CallMade s g pages h places (call.Load part n) answer.Loaded (moment (loaded l) 0) places
+      → CallMade s g pages h places (call.Load part n) (Ok answer.Loaded) (moment (loaded l) 0) places
   load_refused : {part : Part} {n : ℕ} {r : Refusal} → loading s (cut pages part) n ≡ Err r
-      → CallMade s g pages h places (call.Load part n) (answer.Refused r) (moment refused (looked_in h)) places
+      → CallMade s g pages h places (call.Load part n) (Err r) (moment refused (looked_in h)) places
   grant_taken : {n : ℕ} → granting_to (line_in h) (granted_in h) n ≡ Ok tt
-      → CallMade s g pages h places (call.Grant n) answer.Granted (moment (granted n) (looked_in h)) places
+      → CallMade s g pages h places (call.Grant n) (Ok answer.Granted) (moment (granted n) (looked_in h)) places
   grant_refused : {n : ℕ} {r : Refusal} → granting_to (line_in h) (granted_in h) n ≡ Err r
-      → CallMade s g pages h places (call.Grant n) (answer.Refused r) (moment refused (looked_in h)) places
+      → CallMade s g pages h places (call.Grant n) (Err r) (moment refused (looked_in h)) places
   next_found : {part : Part} {l : Cells} {c : Chain} {k : ℕ} → line_in h ≡ Some l → length l ≤ length (cut places part)
-      → CallMade s g pages h places (call.Next part) (answer.Found (length l)) (moment (found c) k) (overwritten places part (text l c))
+      → CallMade s g pages h places (call.Next part) (Ok (answer.Next (Found (length l)))) (moment (found c) k) (overwritten places part (text l c))
   next_spent : {part : Part} {l : Cells} {k : ℕ} → line_in h ≡ Some l → length l ≤ length (cut places part)
-      → CallMade s g pages h places (call.Next part) answer.Spent (moment spent k) places
+      → CallMade s g pages h places (call.Next part) (Ok (answer.Next Spent)) (moment spent k) places
   next_exhausted : {part : Part} {l : Cells} {k : ℕ} → line_in h ≡ Some l → length l ≤ length (cut places part)
-      → CallMade s g pages h places (call.Next part) answer.Exhausted (moment exhausted k) places
+      → CallMade s g pages h places (call.Next part) (Ok (answer.Next Exhausted)) (moment exhausted k) places
   next_refused : {part : Part} {r : Refusal} → NextRefused (line_in h) (cut places part) r
-      → CallMade s g pages h places (call.Next part) (answer.Refused r) (moment refused (looked_in h)) places
+      → CallMade s g pages h places (call.Next part) (Err r) (moment refused (looked_in h)) places
   report_made : {r : Report} → Reported h r
-      → CallMade s g pages h places call.Report (answer.Reported r) (moment reported (looked_in h)) places
+      → CallMade s g pages h places call.Report (Ok (answer.Reported r)) (moment reported (looked_in h)) places
 
 -- A RUN of rows from the start: the rows with their answers, the history of their moments, and the places after them.
 pub data Ran (s : Meaning) (g : Sets) (pages places : List ℕ) : List Row → List Row → List Moment → List ℕ → Type 0 where
   none : Ran s g pages places [] [] [] places
-  one_more : {rows rows' : List Row} {h : List Moment} {between after : List ℕ} {x : Moment} (row row' : Row)
+  one_more : {rows rows' : List Row} {h : List Moment} {between after : List ℕ} {x : Moment} {answered : Result Answer Refusal} (row row' : Row)
       → Ran s g pages places rows rows' h between
-      → row'.call ≡ row.call → CallMade s g pages h between row.call row'.answer x after → Lawful s g h x
+      → row'.call ≡ row.call → row'.answer ≡ Some answered → CallMade s g pages h between row.call answered x after → Lawful s g h x
       → Ran s g pages places (rows ++ row ∷ []) (rows' ++ row' ∷ []) (x ∷ h) after
 
 abbrev pub Runs : Meaning → Sets → List ℕ → List ℕ → List Row → List Row → List ℕ → Type 0

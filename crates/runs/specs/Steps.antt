@@ -1,11 +1,12 @@
 -- How the steps of a run are argued: a history, and what is seen of the reader. Assumes nothing.
-use Rattle.std.specs.Prelude.{◌≡◌, ℕ, ◌≤◌, true, ◌↔◌, List, ◌∷◌, length, take, Some}
+use Rattle.std.specs.Prelude.{◌≡◌, ℕ, ◌≤◌, true, ◌↔◌, List, ◌∷◌, length, take, Some, Result}
 use Rattle.pages.specs.Shape.{Cells}
 use Rattle.scores.specs.Scores.{Meaning}
 use Rattle.grammars.specs.Grammars.{Sets}
 use Rattle.search.specs.Members.{Mem}
 use Rattle.search.specs.Chains.{Chain}
 use Rattle.bench.specs.Searched.{admitted}
+use Rattle.reader.specs.declared.refusals.Refusal.{Refusal}
 use Rattle.reader.specs.Views.{View}
 use Rattle.runs.specs.declared.rows.Call.{Call}
 use Rattle.runs.specs.declared.rows.Answer.{Answer}
@@ -22,6 +23,6 @@ pub record Tracks (s : Meaning) (g : Sets) (h : List Moment) (v : View) : Type 0
   pub seen : (l : Cells) → line_in h ≡ Some l → (c : Chain) → Mem c (handed_in h) ↔ (Mem c (take (looked_in h) (live_chains s g l)) × (admitted g l c ≡ true))
 
 -- after any history that agrees with the view, the call makes a lawful moment, and the history with it agrees again
-abbrev pub Made : Meaning → Sets → List ℕ → View → List ℕ → Call → Answer → View → List ℕ → Type 0
+abbrev pub Made : Meaning → Sets → List ℕ → View → List ℕ → Call → Result Answer Refusal → View → List ℕ → Type 0
 Made s g pages v places made answered v' places' =
     (h : List Moment) → Tracks s g h v → (x : Moment) × CallMade s g pages h places made answered x places' × Lawful s g h x × Tracks s g (x ∷ h) v'

@@ -1,18 +1,19 @@
 // The rows of a run.
 ghost use Rattle.std.specs.Prelude.{◌≡◌, ◌+◌, ◌-◌, min};
-ghost use Rattle.runs.specs.Rows.{answer_of};
+ghost use Rattle.runs.specs.declared.rows.Answer.TheVariants as Answers;
 
 use reader::{Outcome, Refusal, Report};
+use std::ops::Range;
 
-// A part of lent bytes, cut off at their end.
-#[derive(Clone, Copy)]
+// A part of lent bytes, cut off at their end: two numbers of the caller's, and no `Range`, which might lie behind the end.
+#[derive(Clone, Copy, Debug, PartialEq, Eq)]
 pub struct Part {
     pub start: usize,
     pub length: usize,
 }
 
 // A call with its numbers. A page is a part of the bytes that are lent for pages, a place one of those lent for places.
-#[derive(Clone, Copy)]
+#[derive(Clone, Copy, Debug, PartialEq, Eq)]
 pub enum Call {
     Load { page: Part, number: usize },
     Grant { chains: usize },
@@ -20,51 +21,38 @@ pub enum Call {
     Report,
 }
 
-// What a call answered; a row that has not been run yet is pending.
-#[derive(Clone, Copy)]
+// What a call that was not refused answers.
+#[derive(Clone, Copy, Debug, PartialEq, Eq)]
 pub enum Answer {
-    Pending,
     Loaded,
     Granted,
-    Found { bytes: usize },
-    Spent,
-    Exhausted,
-    Reported { report: Report },
-    Refused { refusal: Refusal },
+    Next(Outcome),
+    Reported(Report),
 }
 
-// A call, and its answer once it is made.
-#[derive(Clone, Copy)]
+// A call, and what it answered or why it was refused, once it is made.
+#[derive(Clone, Copy, Debug, PartialEq, Eq)]
 pub struct Row {
     pub call: Call,
-    pub answer: Answer,
+    pub answer: Option<Result<Answer, Refusal>>,
 }
 
+// Written out, as a derived `From` says nothing of what it gives.
 impl From<Outcome> for Answer {
-    ghost from_gives = { λ e r. r ≡ answer_of e };
+    ghost from_gives = { λ e r. r ≡ Answers.Next e };
 
     fn from(outcome: Outcome) -> Answer {
-        match outcome {
-            Outcome::Found(bytes) => Answer::Found { bytes },
-            Outcome::Spent => Answer::Spent,
-            Outcome::Exhausted => Answer::Exhausted,
-        }
+        Answer::Next(outcome)
     }
 }
 
 impl Part {
-    // Where the part begins in so many bytes.
-    pub(crate) fn begin(&self, len: usize) -> usize
-        ensures { result ≡ min self.now.start len }
+    // Where the part lies in so many bytes.
+    pub(crate) fn range(&self, len: usize) -> Range<usize>
+        ensures start { result.start ≡ min self.now.start len }
+        ensures end { result.end ≡ result.start + min self.now.length (len - result.start) }
     {
-        self.start.min(len)
-    }
-
-    // Where it ends.
-    pub(crate) fn end(&self, len: usize) -> usize
-        ensures { result ≡ min self.now.start len + min self.now.length (len - min self.now.start len) }
-    {
-        let begin = self.begin(len);
-        begin + self.length.min(len - begin)
+        let start = self.start.min(len);
+        start..start + self.length.min(len - start)
     }
 }

@@ -1,85 +1,43 @@
 // Makes the calls of a run.
-ghost use Rattle.std.specs.Prelude.{◌≡◌, ℕ, List, MatchResult};
+ghost use Rattle.std.specs.Prelude.{◌≡◌, MatchResult};
 ghost use Rattle.reader.specs.Views.{view, Kept, Agrees};
 ghost use Rattle.runs.specs.Determined.{Determined};
 ghost use Rattle.runs.specs.Runs.{Runs};
 ghost use Rattle.runs.specs.Steps.{Made};
 
-use crate::rows::{Answer, Call, Part, Row};
+use crate::rows::{Answer, Call, Row};
 use grammars::Grammar;
-use reader::Reader;
+use reader::{Reader, Refusal};
 use scores::Score;
 use std::alloc::{AllocError, Global};
 
-fn answer_load<G: Grammar + Drop, S: Score + Drop>(
-    reader: &mut Reader<G, S>,
-    pages: &[u8],
-    part: Part,
-    number: usize,
-) -> Answer
-    requires agrees { Agrees S.Score.meaning (G.Grammar.meaning reader.old.grammar) reader.old }
-    ensures agrees { Agrees S.Score.meaning (G.Grammar.meaning reader.old.grammar) reader.new }
-    ensures kept { Kept reader.old reader.new }
-    ensures made { (places : List ℕ) → Made S.Score.meaning (G.Grammar.meaning reader.old.grammar) pages.now (view reader.old) places (Call.Load part number) result (view reader.new) places }
-{
-    let page = &pages[part.begin(pages.len())..part.end(pages.len())];
-    match reader.load(page, number) {
-        Ok(()) => Answer::Loaded,
-        Err(refusal) => Answer::Refused { refusal },
-    }
-}
-
-fn answer_grant<G: Grammar + Drop, S: Score + Drop>(
-    reader: &mut Reader<G, S>,
-    chains: usize,
-) -> Answer
-    requires agrees { Agrees S.Score.meaning (G.Grammar.meaning reader.old.grammar) reader.old }
-    ensures agrees { Agrees S.Score.meaning (G.Grammar.meaning reader.old.grammar) reader.new }
-    ensures kept { Kept reader.old reader.new }
-    ensures made { (pages places : List ℕ) → Made S.Score.meaning (G.Grammar.meaning reader.old.grammar) pages (view reader.old) places (Call.Grant chains) result (view reader.new) places }
-{
-    match reader.grant(chains) {
-        Ok(()) => Answer::Granted,
-        Err(refusal) => Answer::Refused { refusal },
-    }
-}
-
-fn answer_next<G: Grammar + Drop, S: Score + Drop>(
-    reader: &mut Reader<G, S>,
-    places: &mut [u8],
-    part: Part,
-) -> Answer
-    requires agrees { Agrees S.Score.meaning (G.Grammar.meaning reader.old.grammar) reader.old }
-    ensures agrees { Agrees S.Score.meaning (G.Grammar.meaning reader.old.grammar) reader.new }
-    ensures kept { Kept reader.old reader.new }
-    ensures made { (pages : List ℕ) → Made S.Score.meaning (G.Grammar.meaning reader.old.grammar) pages (view reader.old) places.old (Call.Next part) result (view reader.new) places.new }
-{
-    let begin = part.begin(places.len());
-    let end = part.end(places.len());
-    match reader.next(&mut places[begin..end]) {
-        Ok(outcome) => Answer::from(outcome),
-        Err(refusal) => Answer::Refused { refusal },
-    }
-}
-
+// Makes a call, on a reader that agrees with its bench. A `match` and no table of functions: a call is data in a row.
 fn answer_call<G: Grammar + Drop, S: Score + Drop>(
     reader: &mut Reader<G, S>,
     pages: &[u8],
     places: &mut [u8],
     call: Call,
-) -> Answer
-    requires agrees { Agrees S.Score.meaning (G.Grammar.meaning reader.old.grammar) reader.old }
-    ensures agrees { Agrees S.Score.meaning (G.Grammar.meaning reader.old.grammar) reader.new }
+) -> Result<Answer, Refusal>
+    requires agrees { Agrees S.meaning (G.meaning reader.old.grammar) reader.old }
+    ensures agrees { Agrees S.meaning (G.meaning reader.old.grammar) reader.new }
     ensures kept { Kept reader.old reader.new }
-    ensures made { Made S.Score.meaning (G.Grammar.meaning reader.old.grammar) pages.now (view reader.old) places.old call result (view reader.new) places.new }
+    ensures made { Made S.meaning (G.meaning reader.old.grammar) pages.now (view reader.old) places.old call result (view reader.new) places.new }
 {
     match call {
-        Call::Load { page, number } => answer_load(reader, pages, page, number),
-        Call::Grant { chains } => answer_grant(reader, chains),
-        Call::Next { place } => answer_next(reader, places, place),
-        Call::Report => Answer::Reported {
-            report: reader.report(),
-        },
+        Call::Load { page, number } => {
+            reader.load(&pages[page.range(pages.len())], number)?;
+            Ok(Answer::Loaded)
+        }
+        Call::Grant { chains } => {
+            reader.grant(chains)?;
+            Ok(Answer::Granted)
+        }
+        Call::Next { place } => {
+            let range = place.range(places.len());
+            let outcome = reader.next(&mut places[range])?;
+            Ok(Answer::from(outcome))
+        }
+        Call::Report => Ok(Answer::Reported(reader.report())),
     }
 }
 
@@ -93,12 +51,12 @@ pub fn run<G: Grammar + Drop, S: Score + Drop>(
     places: &mut [u8],
     rows: &mut [Row],
 ) -> Result<(), AllocError>
-    ensures law { MatchResult result (λ _. Runs S.Score.meaning (G.Grammar.meaning grammar) pages.now places.old rows.old rows.new places.new) (λ _. (rows.new ≡ rows.old) × (places.new ≡ places.old)) }
-    ensures determined { Determined S.Score.meaning (G.Grammar.meaning grammar) pages.now places.old rows.old }
+    ensures law { MatchResult result (λ _. Runs S.meaning (G.meaning grammar) pages.now places.old rows.old rows.new places.new) (λ _. (rows.new ≡ rows.old) × (places.new ≡ places.old)) }
+    ensures determined { Determined S.meaning (G.meaning grammar) pages.now places.old rows.old }
 {
     let mut reader = Reader::new(heap, grammar, score)?;
     for row in rows.iter_mut() {
-        row.answer = answer_call(&mut reader, pages, places, row.call);
+        row.answer = Some(answer_call(&mut reader, pages, places, row.call));
     }
     Ok(())
 }

@@ -2,22 +2,21 @@
 use Rattle.std.proofs.Common.{◌≡◌, ℕ, ◌+◌, ◌-◌, ◌*◌, ◌^◌, ◌≤◌, min, List, [], ◌∷◌, length, ap, ◌∙◌, mul-le-mul_right, mul_assoc, mul-le-mul_left, one-mul, pow-suc, mul-one, arith}
 use native.Mathlib.Nat.{pow-le-pow_right}
 use Rattle.std.specs.List.{AllByRecursion}
+use Rattle.std.proofs.lemmas.List.Elements.{recursion_from_All}
+use Rattle.std.proofs.lemmas.List.Sums.{sum_by-cons, sum_by-le}
 use Rattle.scores.specs.Scores.{Taken, stepped, sum_meaning, shares_meaning, penalty_sum, share_product, Exact}
 
 sum_from : (ps : List ℕ) (t : ℕ) → t + penalty_sum ps ≤ 4294967295 → stepped sum_meaning t ps ≡ t + penalty_sum ps
 sum_from [] t h = omega arith
 sum_from (p ∷ ps) t h =
+    let first = sum_by-cons (λ x. x) p ps in
     let e : min (t + p) 4294967295 ≡ t + p = omega arith in
     ap (λ k. stepped sum_meaning k ps) e ∙ sum_from ps (t + p) (omega arith) ∙ omega arith
 
-sum_most : (ps : List ℕ) → AllByRecursion (λ p. p ≤ 65535) ps → penalty_sum ps ≤ 65535 * length ps
-sum_most [] h = omega arith
-sum_most (p ∷ ps) h = let rest = sum_most ps h.1 in omega (arith, h.0)
-
 sum_exact : (ps : List ℕ) → Taken sum_meaning ps → stepped sum_meaning 0 ps ≡ penalty_sum ps
 sum_exact ps h =
-    let most = sum_most ps h.1 in
     let few = h.0 in
+    let most = sum_by-le (λ p. p) 65535 ps h.1 in
     sum_from ps 0 (omega arith) ∙ omega arith
 
 product_some : (ps : List ℕ) → AllByRecursion (λ p. p ≤ 99) ps → 1 ≤ share_product ps
@@ -56,7 +55,7 @@ shares_exact ps h =
     let most = product_most ps in
     let limit : 100 ^ length ps ≤ 100 ^ 9 = pow-le-pow_right (omega arith) few in
     let one = one-mul (share_product ps) in
-    shares_from ps 1 h.1 (omega arith) ∙ one
+    shares_from ps 1 (recursion_from_All _ ps h.1) (omega arith) ∙ one
 
 pub exact : Exact
 exact = record { sums = sum_exact; products = shares_exact }

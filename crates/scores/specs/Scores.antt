@@ -1,6 +1,6 @@
 -- What a score means, what it is held to, and what the two scores mean.
-use Rattle.std.specs.Prelude.{◌≡◌, ℕ, ◌+◌, ◌-◌, ◌*◌, ◌^◌, ◌<◌, ◌≤◌, min, Bool, true, not, ◌&&◌, ◌⊎◌, List, [], ◌∷◌, length, nat_le}
-use Rattle.std.specs.List.{AllByRecursion}
+use Rattle.std.specs.Prelude.{◌≡◌, ℕ, ◌+◌, ◌-◌, ◌*◌, ◌^◌, ◌<◌, ◌≤◌, min, Bool, true, not, ◌&&◌, ◌⊎◌, List, [], ◌∷◌, length, sum, nat_le, All}
+use Rattle.std.specs.List.{fold}
 
 -- The meaning of a score: the start total, the step from a total and a penalty to a total, whether one total is no worse than
 -- another, and the most cells and the highest penalty that it takes.
@@ -28,12 +28,11 @@ better_by s t u = s.no_worse t u && not (s.no_worse u t)
 
 -- the total after the penalties ps, from the total t on
 abbrev pub stepped : Meaning → ℕ → List ℕ → ℕ
-stepped s t [] = t
-stepped s t (p ∷ ps) = stepped s (s.step t p) ps
+stepped s t ps = fold s.step t ps
 
 -- ps are at most as many penalties as the score takes cells, none above its highest
 abbrev pub Taken : Meaning → List ℕ → Type 0
-Taken s ps = (length ps ≤ s.most_cells) × AllByRecursion (λ p. p ≤ s.highest_penalty) ps
+Taken s ps = (length ps ≤ s.most_cells) × All (λ p. p ≤ s.highest_penalty) ps
 
 -- Sum: penalties are added, held at 4,294,967,295, and smaller is better
 abbrev pub sum_meaning : Meaning
@@ -57,8 +56,7 @@ shares_meaning = record {
 
 -- the sum of the penalties
 abbrev pub penalty_sum : List ℕ → ℕ
-penalty_sum [] = 0
-penalty_sum (p ∷ ps) = p + penalty_sum ps
+penalty_sum ps = sum ps
 
 -- the product of the shares that the penalties leave, 100 less each
 abbrev pub share_product : List ℕ → ℕ

@@ -1,26 +1,23 @@
 // Scores: how a total is made of penalties, and which of two totals is better.
 #![tactic(auto)]
 
-ghost use Rattle.std.specs.Prelude.{◌≡◌};
+ghost use Rattle.std.specs.Prelude.{◌≡◌, ℕ, refl};
 ghost use Rattle.scores.specs.Scores.{Meaning, Laws, better_by, stepped, sum_meaning, shares_meaning, Exact};
 ghost use Rattle.std.proofs.Common.{rules};
-ghost use Rattle.scores.specs.SharesScoreLemmas.{steady, cheaper};
 
+// Totals and penalties are plain numbers, the operands of a score.
 pub trait Score {
-    // The most cells and the highest penalty that the score takes. The contracts of `cells_taken` and `penalty_taken`
-    // tie what these answer to the meaning, each score writes them as its constants, and generic code reads the
-    // functions.
-    const MOST_CELLS: usize;
-
-    const HIGHEST_PENALTY: u16;
-
     ghost meaning: { Meaning };
 
-    fn cells_taken() -> usize
-        ensures { result ≡ meaning.most_cells };
+    // The most cells of a line that the score takes.
+    const MOST_CELLS: usize;
 
-    fn penalty_taken() -> u16
-        ensures { result ≡ meaning.highest_penalty };
+    ghost MOST_CELLS: { ℕ };
+
+    // The highest penalty that it takes.
+    const HIGHEST_PENALTY: u16;
+
+    ghost HIGHEST_PENALTY: { ℕ };
 
     // The total before the first penalty.
     fn start() -> u64
@@ -34,6 +31,10 @@ pub trait Score {
     fn no_worse(a: u64, b: u64) -> bool
         ensures { result ≡ meaning.no_worse a b };
 
+    ghost cells_are: { MOST_CELLS ≡ meaning.most_cells };
+
+    ghost penalty_is: { HIGHEST_PENALTY ≡ meaning.highest_penalty };
+
     ghost laws: { Laws meaning };
 }
 
@@ -42,21 +43,21 @@ pub trait Score {
 pub struct Sum;
 
 impl Score for Sum {
+    ghost meaning = { sum_meaning };
+
     const MOST_CELLS: usize = 24;
+
+    ghost MOST_CELLS = { sum_meaning.most_cells };
 
     const HIGHEST_PENALTY: u16 = 65_535;
 
-    ghost meaning = { sum_meaning };
+    ghost HIGHEST_PENALTY = { sum_meaning.highest_penalty };
+
+    ghost cells_are = { refl };
+
+    ghost penalty_is = { refl };
 
     ghost laws = { Prim.search rules };
-
-    fn cells_taken() -> usize {
-        Self::MOST_CELLS
-    }
-
-    fn penalty_taken() -> u16 {
-        Self::HIGHEST_PENALTY
-    }
 
     fn start() -> u64 {
         0
@@ -76,28 +77,21 @@ impl Score for Sum {
 pub struct Shares;
 
 impl Score for Shares {
+    ghost meaning = { shares_meaning };
+
     const MOST_CELLS: usize = 9;
+
+    ghost MOST_CELLS = { shares_meaning.most_cells };
 
     const HIGHEST_PENALTY: u16 = 99;
 
-    ghost meaning = { shares_meaning };
+    ghost HIGHEST_PENALTY = { shares_meaning.highest_penalty };
 
-    ghost laws = { record {
-      transitive = Prim.search rules;
-      either = Prim.search rules;
-      steady = steady;
-      cheaper = cheaper;
-      start_fits = Prim.search rules;
-      step_fits = Prim.search rules;
-    } };
+    ghost cells_are = { refl };
 
-    fn cells_taken() -> usize {
-        Self::MOST_CELLS
-    }
+    ghost penalty_is = { refl };
 
-    fn penalty_taken() -> u16 {
-        Self::HIGHEST_PENALTY
-    }
+    ghost laws = { Prim.search rules };
 
     fn start() -> u64 {
         1
@@ -115,7 +109,7 @@ impl Score for Shares {
 
 // Whether one total is better than another: no worse, where the other is not.
 pub fn better<S: Score>(a: u64, b: u64) -> bool
-    ensures { result ≡ better_by S.Score.meaning a b }
+    ensures { result ≡ better_by S.meaning a b }
 {
     S::no_worse(a, b) && !S::no_worse(b, a)
 }
@@ -123,12 +117,10 @@ pub fn better<S: Score>(a: u64, b: u64) -> bool
 // The total of a row of penalties, the first one's step first. Under `Sum` and `Shares` it is exact within the
 // score's two figures.
 pub fn total<S: Score>(penalties: &[u16]) -> u64
-    ensures value { result ≡ stepped S.Score.meaning S.Score.meaning.start penalties.now }
+    ensures value { result ≡ stepped S.meaning S.meaning.start penalties.now }
     ensures exact { Exact }
 {
-    let mut total = S::start();
-    for penalty in penalties {
-        total = S::step(total, *penalty);
-    }
-    total
+    penalties
+        .iter()
+        .fold(S::start(), |total, penalty| S::step(total, *penalty))
 }

@@ -1,6 +1,6 @@
 -- Best-first enumeration: why the least of the bench is the next of the ranking, and why the bench goes on so. Assumes nothing.
-use Rattle.std.proofs.Common.{◌≡◌, ℕ, zero, suc, ◌+◌, ◌-◌, ◌*◌, ◌<◌, ◌≤◌, Bool, true, ◌⊎◌, ◌↔◌, List, [], ◌∷◌, ◌++◌, length, take, drop, sym, refl, ap, ◌∙◌, subst, inl, inr, ⊎_elim, mul-suc, arith, length-append, length-drop}
-use mathlib.Core.Option.{Option, none, some, some-injective, none-ne-some}
+use Rattle.std.proofs.Common.{◌≡◌, ℕ, zero, suc, ◌+◌, ◌-◌, ◌*◌, ◌<◌, ◌≤◌, Bool, true, ◌⊎◌, ◌↔◌, List, [], ◌∷◌, ◌++◌, length, take, drop, sym, refl, ap, ◌∙◌, subst, inl, inr, ⊎_elim, mul-suc, arith, length-append, length-drop, Some, None, Option}
+use Rattle.std.proofs.lemmas.Option.{same_Some, none-some}
 use Rattle.std.specs.List.{flat_map}
 use Rattle.std.proofs.lemmas.List.{drop_all, length-take-le}
 use Rattle.std.proofs.lemmas.Bool.{both_ways}
@@ -10,7 +10,7 @@ use Rattle.search.proofs.Members.{mem_left, mem_right, mem_append, mem_halves, m
 
 module _ {C : Type 0} (before : C → C → Bool) (lowered : C → Option C) (children : C → List C) (root : C) (ranking : List C) (g : Growth before lowered children root ranking) where
   abbrev Ready : ℕ → C → Type 0
-  Ready k c = (p : C) → lowered c ≡ some p → Mem p (take k ranking)
+  Ready k c = (p : C) → lowered c ≡ Some p → Mem p (take k ranking)
 
   not_self : (a : C) → before a a ≡ true → ⊥
   not_self a h = both_ways (before a a) (g.irreflexive a) h
@@ -23,7 +23,7 @@ module _ {C : Type 0} (before : C → C → Bool) (lowered : C → Option C) (ch
   apart k c a b = not_self c (ascending_across before k ranking g.ascending c c a b)
 
   -- a parent of one looked at, or of the first left, was looked at
-  parent_taken : (k : ℕ) (c p : C) → Mem c (take k ranking) → lowered c ≡ some p → Mem p (take k ranking)
+  parent_taken : (k : ℕ) (c p : C) → Mem c (take k ranking) → lowered c ≡ Some p → Mem p (take k ranking)
   parent_taken k c p m e =
       let in-ranking = mem_take c k ranking m in
       ⊎_elim (λ t. t)
@@ -52,13 +52,13 @@ module _ {C : Type 0} (before : C → C → Bool) (lowered : C → Option C) (ch
     holds = λ c. (only c, λ h. is_root c h.0 h.1 (lowered c) refl);
   }
     where
-      only : (c : C) → Mem c (root ∷ []) → Mem c ranking × ((p : C) → lowered c ≡ some p → ⊥)
-      only c (inl e) = (subst (λ z. Mem z ranking) (sym e) g.root_ranked, λ p low. none-ne-some p (sym g.root_first ∙ ap lowered (sym e) ∙ low))
+      only : (c : C) → Mem c (root ∷ []) → Mem c ranking × ((p : C) → lowered c ≡ Some p → ⊥)
+      only c (inl e) = (subst (λ z. Mem z ranking) (sym e) g.root_ranked, λ p low. none-some p (sym g.root_first ∙ ap lowered (sym e) ∙ low))
       only c (inr m) = absurd m
 
-      is_root : (c : C) → Mem c ranking → ((p : C) → lowered c ≡ some p → ⊥) → (o : Option C) → lowered c ≡ o → Mem c (root ∷ [])
-      is_root c m no-parent none e = inl (g.one_root c m e)
-      is_root c m no-parent (some p) e = absurd (no-parent p e)
+      is_root : (c : C) → Mem c ranking → ((p : C) → lowered c ≡ Some p → ⊥) → (o : Option C) → lowered c ≡ o → Mem c (root ∷ [])
+      is_root c m no-parent None e = inl (g.one_root c m e)
+      is_root c m no-parent (Some p) e = absurd (no-parent p e)
 
   ends : (k : ℕ) (bench : List C) → Frontier lowered ranking k bench → (bench ≡ []) ↔ (k ≡ length ranking)
   ends k bench f = (λ e. go e (drop k ranking) refl, λ h. no_members bench (λ c m. subst (Mem c) (drop_all k ranking (omega arith)) ((f.holds c).0 m).0))
@@ -136,7 +136,7 @@ module _ {C : Type 0} (before : C → C → Bool) (lowered : C → Option C) (ch
               (mem_append c (take k ranking) (m ∷ []) (subst (Mem c) taken t))))
               (λ d. d)
               (mem_halves c (k + 1) ranking known.0),
-          λ p low. subst (λ z. Mem z (take (k + 1) ranking)) (some-injective m p (sym known.1 ∙ low)) m_taken,
+          λ p low. subst (λ z. Mem z (take (k + 1) ranking)) (same_Some m p (sym known.1 ∙ low)) m_taken,
         )
 
     comes_from : (c : C) → Mem c (drop (k + 1) ranking) → Ready (k + 1) c → Mem c (rest ++ children m)
@@ -150,11 +150,11 @@ module _ {C : Type 0} (before : C → C → Bool) (lowered : C → Option C) (ch
             ((without.holds c).1 ((f.holds c).1 (was_left, r), λ e. apart (k + 1) m m_taken (subst (λ z. Mem z (drop (k + 1) ranking)) e left)))
 
         go : (o : Option C) → lowered c ≡ o → Mem c (rest ++ children m)
-        go none e = old (λ p low. absurd (none-ne-some p (sym e ∙ low)))
-        go (some p) e = ⊎_elim
-            (λ a. old (λ q low. subst (λ z. Mem z (take k ranking)) (some-injective p q (sym e ∙ low)) a))
+        go None e = old (λ p low. absurd (none-some p (sym e ∙ low)))
+        go (Some p) e = ⊎_elim
+            (λ a. old (λ q low. subst (λ z. Mem z (take k ranking)) (same_Some p q (sym e ∙ low)) a))
             (λ b. ⊎_elim
-            (λ (q : p ≡ m). mem_right c rest (children m) ((g.children_are m m_ranked c).1 (mem_drop c (k + 1) ranking left, e ∙ ap {B = Option C} some q)))
+            (λ (q : p ≡ m). mem_right c rest (children m) ((g.children_are m m_ranked c).1 (mem_drop c (k + 1) ranking left, e ∙ ap {B = Option C} Some q)))
             (λ z. absurd z) b)
             (mem_append p (take k ranking) (m ∷ []) (subst (Mem p) taken (ready p e)))
 
@@ -188,9 +188,9 @@ module _ {C : Type 0} (before : C → C → Bool) (lowered : C → Option C) (ch
       each = distinct_append (take k ranking) bench (distinct_take k ranking (ascending_distinct before g.irreflexive ranking g.ascending)) f.once
           (λ c a b. apart k c a ((f.holds c).0 b).0)
 
-      grown : (c : C) → Mem c ranking → ((p : C) → lowered c ≡ some p → Mem p (take k ranking)) → (o : Option C) → lowered c ≡ o → Mem c (root ∷ flat_map children (take k ranking))
-      grown c m r none e = inl (g.one_root c m e)
-      grown c m r (some p) e =
+      grown : (c : C) → Mem c ranking → ((p : C) → lowered c ≡ Some p → Mem p (take k ranking)) → (o : Option C) → lowered c ≡ o → Mem c (root ∷ flat_map children (take k ranking))
+      grown c m r None e = inl (g.one_root c m e)
+      grown c m r (Some p) e =
           let t = r p e in
           inr (mem_joined children (take k ranking) c p t ((g.children_are p (mem_take p k ranking t) c).1 (m, e)))
 

@@ -1,6 +1,6 @@
 -- How the live chains grow from one another. Assumes nothing.
-use Rattle.std.proofs.Common.{◌≡◌, ℕ, zero, suc, ◌+◌, ◌-◌, ◌<◌, ◌≤◌, Bool, true, false, cond, ltb, leb, List, [], ◌∷◌, ◌++◌, length, get_or, take, set, replicate, sym, refl, ap, ◌∙◌, subst, inl, inr, ⊎_elim, append-nil, arith, length-append, length-set}
-use mathlib.Core.Option.{Option, none, some, some-injective, none-ne-some}
+use Rattle.std.proofs.Common.{◌≡◌, ℕ, zero, suc, ◌+◌, ◌-◌, ◌<◌, ◌≤◌, Bool, true, false, cond, ltb, List, [], ◌∷◌, ◌++◌, length, get_or, take, set, replicate, sym, refl, ap, ◌∙◌, subst, inl, inr, ⊎_elim, append-nil, arith, length-append, length-set, Some, None, Option}
+use Rattle.std.proofs.lemmas.Option.{same_Some, none-some}
 use lib.ListN.{length-replicate, get_or-replicate}
 use Rattle.std.proofs.lemmas.List.{get_or-set_same, get_or-set_other, set-set, set-get_or, take-take, get_or_past}
 use Rattle.std.proofs.ByRecursion.{All-get_or}
@@ -24,25 +24,25 @@ Shortens allows = (t : List ℕ) (n : ℕ) → allows t ≡ true → allows (tak
 
 -- p is c with its last raised cell, i, lowered
 record Lowered (c p : Chain) (i : ℕ) : Type 0 where
-  place : last_raised c ≡ some i
+  place : last_raised c ≡ Some i
   is : p ≡ set c i (get_or c i 0 - 1)
 
-from_lowered : (c p : Chain) → lowered c ≡ some p → (i : ℕ) × Lowered c p i
+from_lowered : (c p : Chain) → lowered c ≡ Some p → (i : ℕ) × Lowered c p i
 from_lowered c p e = go (last_raised c) refl e
   where
-    go : (o : Option ℕ) → last_raised c ≡ o → lowered_at c o ≡ some p → (i : ℕ) × Lowered c p i
-    go none q h = absurd (none-ne-some p h)
-    go (some i) q h = (i, record { place = q; is = sym (some-injective _ p h) })
+    go : (o : Option ℕ) → last_raised c ≡ o → lowered_at c o ≡ Some p → (i : ℕ) × Lowered c p i
+    go None q h = absurd (none-some p h)
+    go (Some i) q h = (i, record { place = q; is = sym (same_Some _ p h) })
 
-to_lowered : (c p : Chain) (i : ℕ) → Lowered c p i → lowered c ≡ some p
-to_lowered c p i h = ap (lowered_at c) h.place ∙ ap {B = Option Chain} some (sym h.is)
+to_lowered : (c p : Chain) (i : ℕ) → Lowered c p i → lowered c ≡ Some p
+to_lowered c p i h = ap (lowered_at c) h.place ∙ ap {B = Option Chain} Some (sym h.is)
 
-none_lowered : (c : Chain) → lowered c ≡ none → last_raised c ≡ none
+none_lowered : (c : Chain) → lowered c ≡ None → last_raised c ≡ None
 none_lowered c e = go (last_raised c) e
   where
-    go : (o : Option ℕ) → lowered_at c o ≡ none → o ≡ none
-    go none h = refl
-    go (some i) h = absurd (none-ne-some _ (sym h))
+    go : (o : Option ℕ) → lowered_at c o ≡ None → o ≡ None
+    go None h = refl
+    go (Some i) h = absurd (none-some _ (sym h))
 
 -- below the last raised cell of c, and at it, p may be raised; behind it p is flat as c is
 lowered_flat : (c p : Chain) (i : ℕ) → Lowered c p i → (j : ℕ) → i < j → get_or p j 0 ≡ 0
@@ -55,13 +55,13 @@ lowered_place : (c p : Chain) (i : ℕ) → Lowered c p i → or_zero (last_rais
 lowered_place c p i h = go (last_raised p) refl
   where
     go : (o : Option ℕ) → last_raised p ≡ o → or_zero o ≤ i
-    go none e = omega arith
-    go (some j) e = ⊎_elim (λ (l : i < j). let z = lowered_flat c p i h j l in let u = (last_of p j e).up in absurd (omega arith)) (λ l. l) (cases_lt i j)
+    go None e = omega arith
+    go (Some j) e = ⊎_elim (λ (l : i < j). let z = lowered_flat c p i h j l in let u = (last_of p j e).up in absurd (omega arith)) (λ l. l) (cases_lt i j)
 
 lowered_text : (line : Cells) (c p : Chain) (i : ℕ) → Lowered c p i → take i (text line p) ≡ take i (text line c)
 lowered_text line c p i h = ap (λ q. take i (text line q)) h.is ∙ text_set line c i (get_or c i 0 - 1)
 
-live_opening : (allows : Texts) (line : Cells) (c : Chain) (i : ℕ) → last_raised c ≡ some i → live allows line c ≡ allows (take i (text line c))
+live_opening : (allows : Texts) (line : Cells) (c : Chain) (i : ℕ) → last_raised c ≡ Some i → live allows line c ≡ allows (take i (text line c))
 live_opening allows line c i e = ap (opens allows (text line c)) e
 
 -- the parent is a live chain of the line, and stands before
@@ -80,8 +80,8 @@ parent_live allows shorter line c p i h alive = go (last_raised p) (lowered_plac
     open_i = ap allows (lowered_text line c p i h) ∙ sym (live_opening allows line c i h.place) ∙ alive
 
     go : (o : Option ℕ) → or_zero o ≤ i → opens allows (text line p) o ≡ true
-    go none l = refl
-    go (some j) l = ap allows (sym (take-take j i (text line p) l)) ∙ shorter (take i (text line p)) j open_i
+    go None l = refl
+    go (Some j) l = ap allows (sym (take-take j i (text line p) l)) ∙ shorter (take i (text line p)) j open_i
 
 parent_first : (s : Meaning) → Laws s → (line : Cells) → Sound line → (c p : Chain) (i : ℕ) → Lowered c p i → ChainOf line c → before s line p c ≡ true
 parent_first s laws line sound c p i h chain =
@@ -209,8 +209,8 @@ module _ (allows : Texts) (line : Cells) (p : Chain) (chain : ChainOf line p) wh
       record { inside = omega arith; up = omega arith; flat = λ j l. (let other : j ≡ i → ⊥ = omega arith in ap (λ z. get_or z j 0) h.is ∙ get_or-set_other p i j (get_or p i 0 + 1) 0 other) ∙ flat (last_raised p) refl j (let m : i < j = l in omega arith) }
     where
       flat : (o : Option ℕ) → last_raised p ≡ o → (j : ℕ) → or_zero o < j → get_or p j 0 ≡ 0
-      flat none e j l = flat_of p e j
-      flat (some k) e j l = (last_of p k e).flat j l
+      flat None e j l = flat_of p e j
+      flat (Some k) e j l = (last_of p k e).flat j l
 
   child_lowered : (d : Chain) (i : ℕ) → Child allows line p d (length line) i → Lowered d p i
   child_lowered d i h =
@@ -280,7 +280,7 @@ growth s laws g grammar line well = record {
     known : Ranked s g line
     known = ranked s laws g line
 
-    root_none : last_raised (root line) ≡ none
+    root_none : last_raised (root line) ≡ None
     root_none = is_flat (root line) (root_flat (length line))
 
 pub chains_best_first : BestFirstOfChains

@@ -1,6 +1,5 @@
 -- The last raised cell, and what a change of one rank leaves and changes. Assumes nothing.
-use Rattle.std.proofs.Common.{◌≡◌, ℕ, zero, suc, ◌<◌, ◌≤◌, true, ◌⊎◌, List, [], ◌∷◌, length, get_or, take, set, sym, refl, ap, ◌∙◌, subst, inl, inr, ⊎_elim, arith, length-set}
-use mathlib.Core.Option.{Option, none, some}
+use Rattle.std.proofs.Common.{◌≡◌, ℕ, zero, suc, ◌<◌, ◌≤◌, true, ◌⊎◌, List, [], ◌∷◌, length, get_or, take, set, sym, refl, ap, ◌∙◌, subst, inl, inr, ⊎_elim, arith, length-set, Some, None, Option}
 use Rattle.std.proofs.lemmas.List.{get_or-set_same, get_or-set_other}
 use Rattle.std.proofs.lemmas.Bool.{cases_order, cases_eq}
 use Rattle.std.specs.List.{AllByRecursion}
@@ -19,40 +18,40 @@ pub record Last (c : Chain) (i : ℕ) : Type 0 where
   pub flat : (j : ℕ) → i < j → get_or c j 0 ≡ 0
 
 abbrev pub RaisedAt : Chain → Option ℕ → Type 0
-RaisedAt c none = (j : ℕ) → get_or c j 0 ≡ 0
-RaisedAt c (some i) = Last c i
+RaisedAt c None = (j : ℕ) → get_or c j 0 ≡ 0
+RaisedAt c (Some i) = Last c i
 
 pub raised_at : (c : Chain) → RaisedAt c (last_raised c)
 raised_at [] = λ j. refl
 raised_at (r ∷ c) = go r (last_raised c) (raised_at c)
   where
     go : (r : ℕ) (o : Option ℕ) → RaisedAt c o → RaisedAt (r ∷ c) (raised_from r o)
-    go r (some i) h = record { inside = let z = h.inside in omega arith; up = h.up; flat = elim [ zero ↦ λ l. absurd (omega arith) | suc j ↦ λ l. h.flat j (omega arith) ] }
-    go zero none h = elim [ zero ↦ refl | suc j ↦ h j ]
-    go (suc r) none h = record { inside = omega arith; up = omega arith; flat = elim [ zero ↦ λ l. absurd (omega arith) | suc j ↦ λ l. h j ] }
+    go r (Some i) h = record { inside = let z = h.inside in omega arith; up = h.up; flat = elim [ zero ↦ λ l. absurd (omega arith) | suc j ↦ λ l. h.flat j (omega arith) ] }
+    go zero None h = elim [ zero ↦ refl | suc j ↦ h j ]
+    go (suc r) None h = record { inside = omega arith; up = omega arith; flat = elim [ zero ↦ λ l. absurd (omega arith) | suc j ↦ λ l. h j ] }
 
-pub last_of : (c : Chain) (i : ℕ) → last_raised c ≡ some i → Last c i
+pub last_of : (c : Chain) (i : ℕ) → last_raised c ≡ Some i → Last c i
 last_of c i e = subst (RaisedAt c) e (raised_at c)
 
-pub flat_of : (c : Chain) → last_raised c ≡ none → (j : ℕ) → get_or c j 0 ≡ 0
+pub flat_of : (c : Chain) → last_raised c ≡ None → (j : ℕ) → get_or c j 0 ≡ 0
 flat_of c e = subst (RaisedAt c) e (raised_at c)
 
-pub is_last : (c : Chain) (i : ℕ) → Last c i → last_raised c ≡ some i
+pub is_last : (c : Chain) (i : ℕ) → Last c i → last_raised c ≡ Some i
 is_last c i h = go (last_raised c) (raised_at c)
   where
-    go : (o : Option ℕ) → RaisedAt c o → o ≡ some i
-    go none k = let z = k i in let u = h.up in absurd (omega arith)
-    go (some j) k = ⊎_elim (λ (e : i ≡ j). ap {B = Option ℕ} some (sym e))
+    go : (o : Option ℕ) → RaisedAt c o → o ≡ Some i
+    go None k = let z = k i in let u = h.up in absurd (omega arith)
+    go (Some j) k = ⊎_elim (λ (e : i ≡ j). ap {B = Option ℕ} Some (sym e))
         (⊎_elim (λ (l : i < j). let z = h.flat j l in let u = k.up in absurd (omega arith))
         (λ (l : j < i). let z = k.flat i l in let u = h.up in absurd (omega arith)))
         (cases_order i j)
 
-pub is_flat : (c : Chain) → ((j : ℕ) → get_or c j 0 ≡ 0) → last_raised c ≡ none
+pub is_flat : (c : Chain) → ((j : ℕ) → get_or c j 0 ≡ 0) → last_raised c ≡ None
 is_flat c h = go (last_raised c) (raised_at c)
   where
-    go : (o : Option ℕ) → RaisedAt c o → o ≡ none
-    go none k = refl
-    go (some j) k = let z = h j in let u = k.up in absurd (omega arith)
+    go : (o : Option ℕ) → RaisedAt c o → o ≡ None
+    go None k = refl
+    go (Some j) k = let z = h j in let u = k.up in absurd (omega arith)
 
 -- one rank changed
 pub chain_set : (line : Cells) (c : Chain) (i r : ℕ) → ChainOf line c → r < length (get_or line i []) → ChainOf line (set c i r)

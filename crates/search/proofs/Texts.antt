@@ -1,6 +1,5 @@
 -- A chain and its text determine each other, and a chain whose text is admitted is live. Assumes nothing.
-use Rattle.std.proofs.Common.{◌≡◌, ℕ, zero, suc, ◌<◌, true, [], ◌∷◌, length, get_or, sym, refl, ap, arith}
-use mathlib.Core.Option.{Option, none, some}
+use Rattle.std.proofs.Common.{◌≡◌, ℕ, zero, suc, ◌<◌, true, [], ◌∷◌, length, get_or, sym, refl, ap, arith, Some, None, Option}
 use Rattle.std.specs.List.{AllByRecursion}
 use Rattle.std.proofs.ByRecursion.{All-get_or}
 use Rattle.pages.specs.Shape.{Alternatives, Cells}
@@ -39,5 +38,5 @@ pub admissible_live : AdmissibleIsLive
 admissible_live g laws line c admitted = go (last_raised c)
   where
     go : (o : Option ℕ) → opens g.allows (text line c) o ≡ true
-    go none = refl
-    go (some i) = laws.begun (text line c) i admitted
+    go None = refl
+    go (Some i) = laws.begun (text line c) i admitted

@@ -1,7 +1,6 @@
 -- Best-first enumeration of candidates of any kind: they stand in a strict order, and each but the root grows from a
 -- parent that stands before it. Assumes nothing.
-use Rattle.std.specs.Prelude.{◌≡◌, ℕ, ◌+◌, ◌-◌, ◌*◌, ◌<◌, ◌≤◌, Bool, true, false, ◌⊎◌, ◌↔◌, List, [], ◌∷◌, ◌++◌, length, take, drop}
-use Rattle.std.proofs.Math.Option.{Option, none, some}
+use Rattle.std.specs.Prelude.{◌≡◌, ℕ, ◌+◌, ◌-◌, ◌*◌, ◌<◌, ◌≤◌, Bool, true, false, ◌⊎◌, ◌↔◌, List, [], ◌∷◌, ◌++◌, length, take, drop, Some, None, Option}
 use Rattle.search.specs.Members.{Mem, Distinct, Alike, Without, Ascending}
 
 -- What is enumerated: the candidates of `ranking` in their order, the parent of each (`lowered`) and its children.
@@ -10,11 +9,11 @@ pub record Growth {C : Type 0} (before : C → C → Bool) (lowered : C → Opti
   pub transitive : (a b c : C) → before a b ≡ true → before b c ≡ true → before a c ≡ true
   pub ascending : Ascending before ranking
   pub root_ranked : Mem root ranking
-  pub root_first : lowered root ≡ none
-  pub one_root : (c : C) → Mem c ranking → lowered c ≡ none → c ≡ root
-  pub parent_ranked : (c p : C) → Mem c ranking → lowered c ≡ some p → Mem p ranking
-  pub parent_before : (c p : C) → Mem c ranking → lowered c ≡ some p → before p c ≡ true
-  pub children_are : (p : C) → Mem p ranking → (c : C) → Mem c (children p) ↔ (Mem c ranking × (lowered c ≡ some p))
+  pub root_first : lowered root ≡ None
+  pub one_root : (c : C) → Mem c ranking → lowered c ≡ None → c ≡ root
+  pub parent_ranked : (c p : C) → Mem c ranking → lowered c ≡ Some p → Mem p ranking
+  pub parent_before : (c p : C) → Mem c ranking → lowered c ≡ Some p → before p c ≡ true
+  pub children_are : (p : C) → Mem p ranking → (c : C) → Mem c (children p) ↔ (Mem c ranking × (lowered c ≡ Some p))
   pub children_once : (p : C) → Mem p ranking → Distinct (children p)
 
 -- The frontier once the first k of the ranking have been looked at: each once, the later ones whose parent is among
@@ -22,7 +21,7 @@ pub record Growth {C : Type 0} (before : C → C → Bool) (lowered : C → Opti
 pub record Frontier {C : Type 0} (lowered : C → Option C) (ranking : List C) (k : ℕ) (bench : List C) : Type 0 where
   pub reached : k ≤ length ranking
   pub once : Distinct bench
-  pub holds : (c : C) → Mem c bench ↔ (Mem c (drop k ranking) × ((p : C) → lowered c ≡ some p → Mem p (take k ranking)))
+  pub holds : (c : C) → Mem c bench ↔ (Mem c (drop k ranking) × ((p : C) → lowered c ≡ Some p → Mem p (take k ranking)))
 
 -- m is on the bench, and none there stands before it
 abbrev pub Unbeaten : {C : Type 0} → (C → C → Bool) → C → List C → Type 0

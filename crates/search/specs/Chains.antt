@@ -1,7 +1,6 @@
 -- Chains of a line, their texts and totals, and the order in which they stand; the live chains, how they grow from one
 -- another, and their ranking. Assumes nothing.
-use Rattle.std.specs.Prelude.{◌≡◌, ℕ, zero, suc, ◌+◌, ◌-◌, ◌<◌, Bool, true, false, cond, ◌&&◌, ◌||◌, List, [], ◌∷◌, ◌++◌, map, length, take, replicate, filter, ◌==◌, nat_le, nat_lt, slice_index, slice_index_or, slice_set}
-use Rattle.std.proofs.Math.Option.{Option, none, some}
+use Rattle.std.specs.Prelude.{◌≡◌, ℕ, zero, suc, ◌+◌, ◌-◌, ◌<◌, Bool, true, false, cond, ◌&&◌, ◌||◌, List, [], ◌∷◌, ◌++◌, map, length, take, replicate, filter, ◌==◌, nat_le, nat_lt, slice_index, slice_index_or, slice_set, Some, None, Option}
 use Rattle.pages.specs.declared.lines.Alternative.{Alternative}
 use Rattle.pages.specs.Shape.{Cells}
 use Rattle.scores.specs.Scores.{Meaning, better_by, stepped}
@@ -59,25 +58,25 @@ before s line a b = better_by s (total s line a) (total s line b) || (equally_go
 
 -- the place of the last raised cell: of a chain that begins with rank r, from the place in the rest
 abbrev pub raised_from : ℕ → Option ℕ → Option ℕ
-raised_from r (some i) = some (suc i)
-raised_from zero none = none
-raised_from (suc r) none = some 0
+raised_from r (Some i) = Some (suc i)
+raised_from zero None = None
+raised_from (suc r) None = Some 0
 
 abbrev pub last_raised : Chain → Option ℕ
-last_raised [] = none
+last_raised [] = None
 last_raised (r ∷ c) = raised_from r (last_raised c)
 
 abbrev pub opens : Texts → List ℕ → Option ℕ → Bool
-opens allows t none = true
-opens allows t (some i) = allows (take i t)
+opens allows t None = true
+opens allows t (Some i) = allows (take i t)
 
 -- no cell is raised, or the symbols before the last raised one are an allowed opening
 abbrev pub live : Texts → Cells → Chain → Bool
 live allows line c = opens allows (text line c) (last_raised c)
 
 abbrev pub lowered_at : Chain → Option ℕ → Option Chain
-lowered_at c none = none
-lowered_at c (some i) = some (slice_set c i (slice_index c i - 1))
+lowered_at c None = None
+lowered_at c (Some i) = Some (slice_set c i (slice_index c i - 1))
 
 -- the last raised cell's rank less one
 abbrev pub lowered : Chain → Option Chain
@@ -91,8 +90,8 @@ abbrev pub raised : Chain → ℕ → Chain
 raised c i = slice_set c i (slice_index c i + 1)
 
 abbrev pub or_zero : Option ℕ → ℕ
-or_zero none = 0
-or_zero (some i) = i
+or_zero None = 0
+or_zero (Some i) = i
 
 -- cell i may be raised: it is the last raised one or a later one, the symbols before it are an allowed opening, and it has one more alternative
 abbrev pub may_raise : Texts → Cells → Chain → ℕ → Bool

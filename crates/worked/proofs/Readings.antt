@@ -1,12 +1,12 @@
 -- The worked readings, by computing. Assumes nothing.
-use Rattle.std.proofs.Common.{◌≡◌, ℕ, ◌<◌, ◌≤◌, List, refl, subst, inl, inr, ⊎_elim, arith}
-use Rattle.std.proofs.lemmas.Bool.{leb-true, le-leb, cases_lt}
+use Rattle.std.proofs.Common.{◌≡◌, ℕ, List, Result, refl, subst, rules}
 use Rattle.pages.specs.Reading.{read_page, read_lines, read_line, read_cells, read_cell, read_alternatives}
 use Rattle.scores.specs.Scores.{Laws, sum_meaning}
 use Rattle.grammars.specs.Grammars.{Lawful}
 use Rattle.grammars.specs.Dates.{longest, date_sets}
 use Rattle.grammars.specs.Days.{date_shorter, admitted_allowed}
 use Rattle.reader.specs.Views.{unloaded}
+use Rattle.reader.specs.declared.refusals.Refusal.{Refusal}
 use Rattle.runs.specs.declared.rows.Call.{Call}
 use Rattle.runs.specs.declared.rows.Answer.{Answer}
 use Rattle.runs.specs.Runs.{Runs}
@@ -16,14 +16,7 @@ use Rattle.worked.proofs.Played.{Play, play, every_run, one_run}
 
 -- the laws of Sum and of Date
 sum_laws : Laws sum_meaning
-sum_laws = record {
-  transitive = λ t u v a b. le-leb t v (omega (arith, leb-true t u a, leb-true u v b));
-  either = λ t u. ⊎_elim (λ (lt : t < u). inl (le-leb t u (omega arith))) (λ (le : u ≤ t). inr (le-leb u t le)) (cases_lt t u);
-  steady = λ t u p a. le-leb _ _ (omega (arith, leb-true t u a));
-  cheaper = λ t p q a. le-leb _ _ (omega arith);
-  start_fits = omega arith;
-  step_fits = λ t p. omega arith;
-}
+sum_laws = search rules
 
 date_lawful : Lawful date_sets
 date_lawful = record {
@@ -33,7 +26,7 @@ date_lawful = record {
 }
 
 -- a play that is computed is what every run comes to
-comes_out : (calls : List Call) (answers : List Answer) (left : List ℕ) → play sum_meaning date_sets page unloaded places calls ≡ record { answers = answers; left = left } → ComesOut calls answers left
+comes_out : (calls : List Call) (answers : List (Result Answer Refusal)) (left : List ℕ) → play sum_meaning date_sets page unloaded places calls ≡ record { answers = answers; left = left } → ComesOut calls answers left
 comes_out calls answers left e = record {
   there_is = λ rows same. subst (λ (p : Play). Runs sum_meaning date_sets page places rows (with_answers calls p.answers) p.left) e (one_run sum_meaning date_sets page sum_laws date_lawful places rows calls same);
   every = λ rows rows' left' same r. subst (λ (p : Play). AlikeRows rows' (with_answers calls p.answers) × (left' ≡ p.left)) e (every_run sum_meaning date_sets page sum_laws date_lawful places rows rows' left' calls same r);

@@ -1,5 +1,5 @@
 -- Worked readings: what the definitions that the contracts cite come to, at values worked out by hand. Assumes nothing.
-use Rattle.std.specs.Prelude.{◌≡◌, ℕ, ◌*◌, true, false, List, [], ◌∷◌, ◌++◌, map, length, replicate, pos, neg_ℤ, Ok, codes}
+use Rattle.std.specs.Prelude.{◌≡◌, ℕ, ◌*◌, true, false, List, [], ◌∷◌, ◌++◌, map, length, replicate, pos, neg_ℤ, Some, Ok, Result, codes}
 use Rattle.pages.specs.declared.lines.Alternative.{Alternative}
 use Rattle.pages.specs.Shape.{Alternatives, Cells}
 use Rattle.pages.specs.Reading.{read_page}
@@ -11,6 +11,9 @@ use Rattle.grammars.specs.Grammars.{Sets}
 use Rattle.grammars.specs.Dates.{date_sets}
 use Rattle.grammars.specs.Angles.{angle_sets}
 use Rattle.search.specs.Chains.{Chain, text, total}
+use Rattle.reader.specs.declared.calls.Outcome.{Outcome}
+use Rattle.reader.specs.declared.calls.Outcome.TheVariants.{Found, Spent, Exhausted}
+use Rattle.reader.specs.declared.refusals.Refusal.{Refusal}
 use Rattle.runs.specs.declared.rows.Call.{Call}
 use Rattle.runs.specs.declared.rows.Call.TheVariants as call
 use Rattle.runs.specs.declared.rows.Answer.{Answer}
@@ -74,22 +77,32 @@ abbrev pub places : List ℕ
 places = replicate 40 0
 
 -- a report of the line, with so many granted, looked at and handed out; its places in use are compared with nothing
-abbrev pub told : ℕ → ℕ → ℕ → Answer
-told granted looked handed = answer.Reported (record { cells = 8; granted = granted; looked = looked; handed = handed; places = 0 })
+abbrev pub told : ℕ → ℕ → ℕ → Result Answer Refusal
+told granted looked handed = Ok (answer.Reported (record { cells = 8; granted = granted; looked = looked; handed = handed; places = 0 }))
+
+-- what the other calls that are taken answer
+abbrev pub loaded : Result Answer Refusal
+loaded = Ok answer.Loaded
+
+abbrev pub granted : Result Answer Refusal
+granted = Ok answer.Granted
+
+abbrev pub next : Outcome → Result Answer Refusal
+next outcome = Ok (answer.Next outcome)
 
 -- what remains in the places: the four readings in their order, and eight bytes as they were
 abbrev pub readings : List ℕ
 readings = codes "20022023" ++ (codes "20022024" ++ (codes "28022023" ++ (codes "28022024" ++ replicate 8 0)))
 
 -- the rows of calls and their answers
-abbrev pub with_answers : List Call → List Answer → List Row
+abbrev pub with_answers : List Call → List (Result Answer Refusal) → List Row
 with_answers [] answers = []
 with_answers (c ∷ calls) [] = []
-with_answers (c ∷ calls) (a ∷ answers) = record { call = c; answer = a } ∷ with_answers calls answers
+with_answers (c ∷ calls) (a ∷ answers) = record { call = c; answer = Some a } ∷ with_answers calls answers
 
 -- EVERY run of the calls over the page with Date and Sum, whatever stood in its rows, has these answers and leaves these
 -- places; and there is such a run.
-pub record ComesOut (calls : List Call) (answers : List Answer) (left : List ℕ) : Type 0 where
+pub record ComesOut (calls : List Call) (answers : List (Result Answer Refusal)) (left : List ℕ) : Type 0 where
   pub there_is : (rows : List Row) → map (λ row. row.call) rows ≡ calls → Runs sum_meaning date_sets page places rows (with_answers calls answers) left
   pub every : (rows rows' : List Row) (left' : List ℕ) → map (λ row. row.call) rows ≡ calls → Runs sum_meaning date_sets page places rows rows' left'
       → AlikeRows rows' (with_answers calls answers) × (left' ≡ left)
@@ -98,18 +111,18 @@ pub record ComesOut (calls : List Call) (answers : List Answer) (left : List ℕ
 abbrev pub course : ℕ → List Call
 course n = load_line ∷ call.Grant n ∷ next_into 0 ∷ call.Report ∷ next_into 1 ∷ next_into 2 ∷ next_into 3 ∷ next_into 4 ∷ call.Report ∷ []
 
-abbrev pub course_answers : ℕ → List Answer
-course_answers n = answer.Loaded ∷ answer.Granted ∷ answer.Found 8 ∷ told n 3 1 ∷ answer.Found 8 ∷ answer.Found 8 ∷ answer.Found 8 ∷ answer.Exhausted ∷ told n 6 4 ∷ []
+abbrev pub course_answers : ℕ → List (Result Answer Refusal)
+course_answers n = loaded ∷ granted ∷ next (Found 8) ∷ told n 3 1 ∷ next (Found 8) ∷ next (Found 8) ∷ next (Found 8) ∷ next Exhausted ∷ told n 6 4 ∷ []
 
 abbrev pub watched : ℕ → List Call
 watched n =
     load_line ∷ call.Grant n ∷ next_into 0 ∷ call.Report ∷ next_into 1 ∷ call.Report ∷ next_into 2 ∷ call.Report
     ∷ next_into 3 ∷ call.Report ∷ next_into 4 ∷ call.Report ∷ []
 
-abbrev pub watched_answers : ℕ → List Answer
+abbrev pub watched_answers : ℕ → List (Result Answer Refusal)
 watched_answers n =
-    answer.Loaded ∷ answer.Granted ∷ answer.Found 8 ∷ told n 3 1 ∷ answer.Found 8 ∷ told n 4 2 ∷ answer.Found 8 ∷ told n 5 3
-    ∷ answer.Found 8 ∷ told n 6 4 ∷ answer.Exhausted ∷ told n 6 4 ∷ []
+    loaded ∷ granted ∷ next (Found 8) ∷ told n 3 1 ∷ next (Found 8) ∷ told n 4 2 ∷ next (Found 8) ∷ told n 5 3
+    ∷ next (Found 8) ∷ told n 6 4 ∷ next Exhausted ∷ told n 6 4 ∷ []
 
 -- THE WORKED READINGS
 pub record WorkedReadings : Type 0 where
@@ -141,4 +154,4 @@ pub record WorkedReadings : Type 0 where
   pub granted_6 : ComesOut (course 6) (course_answers 6) readings
   pub watched_6 : ComesOut (watched 6) (watched_answers 6) readings
   -- two are spent before the first reading
-  pub granted_2 : ComesOut (load_line ∷ call.Grant 2 ∷ next_into 0 ∷ call.Report ∷ []) (answer.Loaded ∷ answer.Granted ∷ answer.Spent ∷ told 2 2 0 ∷ []) places
+  pub granted_2 : ComesOut (load_line ∷ call.Grant 2 ∷ next_into 0 ∷ call.Report ∷ []) (loaded ∷ granted ∷ next Spent ∷ told 2 2 0 ∷ []) places

@@ -20,10 +20,10 @@ fn page_of(heap: Global, cells: u8) -> Result<Vec<u8>, Fail> {
 fn is_granted(heap: Global, cells: u8, chains: usize) -> Result<bool, Fail> {
     let page = page_of(heap, cells)?;
     let mut reader = Reader::new(heap, Date, Sum)?;
-    match reader.load(page.as_slice(), 0) {
-        Ok(()) => Ok(reader.grant(chains).is_ok()),
-        Err(_) => Err(Fail::new("the page was refused")),
-    }
+    reader
+        .load(&page, 0)
+        .map_err(|_| Fail::new("the page was refused"))?;
+    Ok(reader.grant(chains).is_ok())
 }
 
 #[test]

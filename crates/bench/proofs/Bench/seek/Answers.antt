@@ -1,42 +1,18 @@
-use Rattle.std.proofs.Common.{◌≡◌, ℕ, ◌+◌, ◌-◌, ◌<◌, ◌≤◌, min, false, length, take, drop, Some, None, sym, ap, ◌∙◌, subst, arith, length-drop}
+use Rattle.std.proofs.Common.{◌≡◌, ◌+◌, ◌-◌, ◌<◌, ◌≤◌, min, false, length, take, drop, Some, None, sym, ap, ◌∙◌, subst, arith, length-drop}
 use Rattle.std.specs.List.{AllByRecursion}
 use Rattle.std.proofs.lemmas.List.{take-take, take_all}
-use Rattle.pages.specs.declared.lines.Line.{Line}
 use Rattle.pages.specs.Answers.{line_of}
-use Rattle.scores.specs.Scores.{Meaning}
-use Rattle.grammars.specs.Grammars.{Sets}
-use Rattle.search.specs.Chains.{Chain, ChainOf, text, ranking}
-use Rattle.search.proofs.Members.{mem_drop}
-use Rattle.search.proofs.Ranking.{ranked}
-use Rattle.bench.specs.declared.Reading.{Reading}
-use Rattle.bench.specs.Held.{reading_of}
+use Rattle.search.specs.Chains.{ranking}
 use Rattle.bench.specs.Searched.{AgreesAt, admitted, due, came_to}
-use Rattle.bench.proofs.Texts.{text_long, front}
 use Rattle.bench.proofs.Lines.{as_many}
-use Rattle.bench.proofs.Searches.{room_left, look_next, look_agrees, look_ends, agrees_empty, passed_more, here_in, none_passes, passes_first}
+use Rattle.bench.proofs.Searches.{room_left, look_gives, look_ends, agrees_empty, passed_more, here_in, none_passes, passes_first}
 use Rattle.bench.proofs.Bench.seek.Goals as goal
 
--- what the grammar is asked is the chain's text
-asked_of : (s : Meaning) (sets : Sets) (line : Line) (c : Chain) (reading : Reading) (n : ℕ) → n ≡ length (line_of line) → ChainOf (line_of line) c → reading ≡ reading_of s (line_of line) c
-    → sets.admits (take n reading.text) ≡ admitted sets (line_of line) c
-asked_of s sets line c reading n cells chain reads =
-    ap (λ r. sets.admits (take n r.text)) reads ∙ ap sets.admits (front (text (line_of line) c) _ n (text_long (line_of line) c chain.long ∙ sym cells))
-
-pub loop-k-init : goal.loop-k-init
-loop-k-init g c =
-    let sets = g.G.Grammar.meaning c.args.grammar.now in
-    let l = line_of c.args.line.now in
-    let none : c.args.looked - c.args.looked ≡ 0 = omega arith in
-    (c.requires.agrees, subst (λ n. AllByRecursion (λ d. admitted sets l d ≡ false) (take n (drop c.args.looked (ranking g.S.Score.meaning sets.allows l)))) (sym none) tt)
-
-pub look-requires : goal.look-requires
-look-requires g c =
+pub look-requires-clause-room : goal.look-requires-clause-room
+look-requires-clause-room g c =
     let line = c.args.line.now in
-    record {
-      holds = c.loop-k.invariant.0.holds;
-      room = room_left g.S.Score.meaning g.met.S.Score.laws (g.G.Grammar.meaning c.args.grammar.now) (g.met.G.Grammar.laws c.args.grammar.now) (line_of line) line.sound
-          c.loop-k.k c.args.granted c.loop-k.self c.loop-k.invariant.0 (omega (arith, c.loop-k-test.true, c.requires.agrees.within));
-    }
+    room_left g.S.Score.meaning g.met.S.Score.laws (g.G.Grammar.meaning c.args.grammar.now) (g.met.G.Grammar.laws c.args.grammar.now) (line_of line) line.sound
+    c.loop-k.k c.args.granted c.loop-k.self c.loop-k.invariant.0 (omega (arith, c.loop-k-test.true, c.requires.agrees.within))
 
 pub returns-in_default : goal.returns-in_default
 returns-in_default g c =
@@ -71,19 +47,17 @@ returns-then-is_admitted g c =
     let seen = c.in-Some.ensures in
     let laws = g.met.S.Score.laws in
     let lawful = g.met.G.Grammar.laws c.args.grammar.now in
-    let next = look_next s laws sets lawful l line.sound k granted c.loop-k.self c.look.new.self c.in-Some.reading c.loop-k.invariant.0 seen in
+    let look = look_gives s laws sets lawful l line.sound k granted c.loop-k.self c.look.new.self c.in-Some.reading c.loop-k.invariant.0 seen in
     let le : looked ≤ k = c.loop-k.auto.k in
     let lt : k < granted = omega (arith, c.loop-k-test.true, c.requires.agrees.within) in
-    let chain : ChainOf l seen.chain = (((ranked s laws sets l).exactly_live seen.chain).0 (mem_drop seen.chain k rk ((c.loop-k.invariant.0.frontier.holds seen.chain).0 seen.chosen.first.0).0)).0 in
-    let cells : length c.cells.result.now - 0 ≡ length l = omega (arith, as_many line c.cells.result.now c.cells.ensures.items) in
+    let asked : sets.admits (take (length c.cells.result.now) c.in-Some.reading.text) ≡ admitted sets l seen.chain = ap sets.admits (look.text (length c.cells.result.now) (omega (arith, as_many line c.cells.result.now c.cells.ensures.items))) in
     let short : k - looked ≤ granted - looked = omega arith in
     let last : looked + (k - looked) + 1 ≡ k + 1 = omega arith in
-    let asked = asked_of s sets line seen.chain c.in-Some.reading (length c.cells.result.now - 0) cells chain seen.reads in
     record {
-      agrees = look_agrees s laws sets lawful l line.sound k granted c.loop-k.self c.look.new.self c.in-Some.reading c.loop-k.invariant.0 seen lt;
+      agrees = look.agrees lt;
       sought = sym (ap (came_to s l looked granted (length rk)) (passes_first (admitted sets l) (k - looked) (due s sets l looked granted) seen.chain
           (subst (AllByRecursion (λ d. admitted sets l d ≡ false)) (sym (take-take (k - looked) (granted - looked) (drop looked rk) short)) c.loop-k.invariant.1)
-          (here_in (λ d. admitted sets l d ≡ false) rk looked k le granted seen.chain lt next.1)
+          (here_in (λ d. admitted sets l d ≡ false) rk looked k le granted seen.chain lt look.next.1)
           (sym (c.if-is_admitted.ensures ∙ asked)))
           ∙ (λ i. record { looked = last i; reading = Some (sym seen.reads i) }));
     }
@@ -101,12 +75,11 @@ loop-k-preserved g c =
     let seen = c.in-Some.ensures in
     let laws = g.met.S.Score.laws in
     let lawful = g.met.G.Grammar.laws c.args.grammar.now in
-    let next = look_next s laws sets lawful l line.sound k granted c.loop-k.self c.look.new.self c.in-Some.reading c.loop-k.invariant.0 seen in
-    let chain : ChainOf l seen.chain = (((ranked s laws sets l).exactly_live seen.chain).0 (mem_drop seen.chain k rk ((c.loop-k.invariant.0.frontier.holds seen.chain).0 seen.chosen.first.0).0)).0 in
-    let cells : length c.cells.result.now - 0 ≡ length l = omega (arith, as_many line c.cells.result.now c.cells.ensures.items) in (
-      look_agrees s laws sets lawful l line.sound k granted c.loop-k.self c.look.new.self c.in-Some.reading c.loop-k.invariant.0 seen (omega (arith, c.loop-k-test.true, c.requires.agrees.within)),
-      passed_more (λ d. admitted sets l d ≡ false) rk looked k c.loop-k.auto.k seen.chain next.1 c.loop-k.invariant.1
-          (sym (c.if-is_admitted.ensures ∙ asked_of s sets line seen.chain c.in-Some.reading (length c.cells.result.now - 0) cells chain seen.reads)),
+    let look = look_gives s laws sets lawful l line.sound k granted c.loop-k.self c.look.new.self c.in-Some.reading c.loop-k.invariant.0 seen in
+    let asked : sets.admits (take (length c.cells.result.now) c.in-Some.reading.text) ≡ admitted sets l seen.chain = ap sets.admits (look.text (length c.cells.result.now) (omega (arith, as_many line c.cells.result.now c.cells.ensures.items))) in (
+      look.agrees (omega (arith, c.loop-k-test.true, c.requires.agrees.within)),
+      passed_more (λ d. admitted sets l d ≡ false) rk looked k c.loop-k.auto.k seen.chain look.next.1 c.loop-k.invariant.1
+          (sym (c.if-is_admitted.ensures ∙ asked)),
     )
 
 pub returns : goal.returns

@@ -5,5 +5,4 @@ use Rattle.bench.proofs.Bench.take_best.Goals as goal
 pub returns : goal.returns
 returns g c =
     let told = c.pop.ensures in
-    let took = popped g.S.Score.meaning.no_worse (heap_items c.args.self.now.places) (heap_items c.pop.new.self) _ _ c.pop.result told.none told.unchanged told.permutation told.heap_order c.requires.ready in
-    record { taken = took.0; capacity = told.capacity; ready = took.1 }
+    popped g.S.Score.meaning.no_worse (heap_items c.args.self.now.places) (heap_items c.pop.new.self) _ _ c.pop.result told.none told.unchanged told.permutation told.heap_order c.args.self.now.ready
