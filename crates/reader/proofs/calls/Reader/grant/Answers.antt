@@ -6,7 +6,7 @@ use Rattle.bench.proofs.Lines.{as_many}
 use Rattle.reader.specs.declared.refusals.Refusal.TheVariants as refusal
 use Rattle.reader.specs.Views.{view}
 use Rattle.reader.specs.Calls.{granting, granting_to, granted_more}
-use Rattle.reader.proofs.Readers.{line_is, line_seen, grant_small, product_small, grant_refused}
+use Rattle.reader.proofs.Readers.{line_is, line_seen, grant_small, grant_refused}
 use Rattle.reader.proofs.calls.Reader.grant.Goals as goal
 use Rattle.reader.proofs.calls.Reader.grant.Goals.{then-not-contains-via-then-not-contains, then-not-contains-via-else-not-contains+then-cells-self-gt-MOST_GRANTED}
 
@@ -17,16 +17,6 @@ overflow_add-self g c =
     let e : r.line ≡ Some line = line_is c.in_ok-ok_or.field-0 c.as_ref.ensures.value c.in_ok-ok_or.ensures.ok_part in
     let some : c.args.chains ≤ 4095 = search (rules, tests) in
     omega (arith, grant_small g.S.Score.meaning (g.G.Grammar.meaning r.grammar) r line e c.requires.agrees)
-
-pub overflow_mul-cells : goal.overflow_mul-cells
-overflow_mul-cells g c =
-    let r = c.args.self.now in
-    let line = c.in_ok-ok_or.field-0.now in
-    let e : r.line ≡ Some line = line_is c.in_ok-ok_or.field-0 c.as_ref.ensures.value c.in_ok-ok_or.ensures.ok_part in
-    let some : c.args.chains ≤ 4095 = search (rules, tests) in
-    let most = product_small g.S.Score.meaning (g.G.Grammar.meaning r.grammar) r line e c.requires.agrees c.args.chains some in
-    let seen = rw (as_many line c.cells-cells.result.now c.cells-cells.ensures.items) at most in
-    omega arith
 
 pub returns-then-not-contains : goal.returns-then-not-contains
 returns-then-not-contains g c =
