@@ -31,7 +31,7 @@ impl Sheet {
         ensures answer { result ≡ checking self.now }
         ensures sets { MatchResult result (λ _. Covers self.now) (λ _. Shut (sheet_sets self.now)) }
     {
-        // An `if`, whose two ways the two halves of the clause `sets` are shown for.
+        // An `if`, whose ways are answered apart: with `then_some` and `ok_or` the check alone does not prove `sets`.
         if self.is_sound() {
             Ok(())
         } else {

@@ -5,7 +5,7 @@ ghost use Rattle.runs.specs.declared.rows.Answer.TheVariants as Answers;
 use reader::{Outcome, Refusal, Report};
 use std::ops::Range;
 
-// A part of lent bytes, cut off at their end: two numbers of the caller's, and no `Range`, which might lie behind the end.
+// A part of lent bytes, cut off at their end: two numbers that the caller gives, and no buffer.
 #[derive(Clone, Copy, Debug, PartialEq, Eq)]
 pub struct Part {
     pub start: usize,
