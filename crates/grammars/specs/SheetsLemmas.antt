@@ -1,6 +1,6 @@
 -- The laws of the sheet.
-use Rattle.std.specs.Prelude.{◌≡◌, ℕ, Bool, true, false, ◌&&◌, List, [], length, take, ℤ, Ok, Err, ◌==◌, nat_le}
-use Rattle.std.proofs.Common.{sym, ap, ◌∙◌, ⊎_elim, arith, length-take}
+use Rattle.std.specs.Prelude.{◌≡◌, ℕ, Bool, true, false, ◌&&◌, List, [], length, take, ℤ, Ok, Err, ◌==◌, nat_le, MatchResult}
+use Rattle.std.proofs.Common.{sym, ap, ◌∙◌, ⊎_elim, subst, arith, length-take}
 use Rattle.std.proofs.lemmas.List.{take_all}
 use Rattle.std.proofs.lemmas.Bool.{cases_Bool, cond-true, cond-false, le-leb, leb-true, eqb-true, eq-eqb, and_parts, and_from}
 use Rattle.positions.specs.declared.Refusal.{Refusal}
@@ -9,7 +9,8 @@ use Rattle.positions.specs.Positions.{is_position, pair_of, reading}
 use Rattle.grammars.specs.declared.sheet.Sheet.{Sheet}
 use Rattle.positions.proofs.Round.{pair_back, pair_again}
 use Rattle.grammars.specs.Grammars.{from_length, Shut}
-use Rattle.grammars.specs.Sheets.{holds, on_sheet, admits_sheet, allows_sheet, sheet_sets, Covers}
+use Rattle.grammars.specs.declared.Refusal.TheVariants.{Table}
+use Rattle.grammars.specs.Sheets.{holds, on_sheet, checking, admits_sheet, allows_sheet, sheet_sets, Covers}
 use Rattle.grammars.specs.Openings.{from_holds, from_gives}
 
 -- what a reading says of its text
@@ -96,3 +97,11 @@ module _ (t : Sheet) where
         let read : reading s ≡ Ok w.0 = ap reading w.2.1 ∙ pair_back w.0.0 w.0.1 w.2.0 in
         sym (inside_is t s w.0 h read) ∙ w.1,
   )
+
+  -- so the check of its table tells which of the two it is
+  pub checked : MatchResult (checking t) (λ _. Covers t) (λ _. Shut (sheet_sets t))
+  checked =
+      ⊎_elim
+      (λ (good : holds t ≡ true). subst (λ q. MatchResult q (λ _. Covers t) (λ _. Shut (sheet_sets t))) (sym (cond-true (holds t) (Ok tt) (Err Table) good)) (covers good))
+      (λ (bad : holds t ≡ false). subst (λ q. MatchResult q (λ _. Covers t) (λ _. Shut (sheet_sets t))) (sym (cond-false (holds t) (Ok tt) (Err Table) bad)) (shut bad))
+      (cases_Bool (holds t))

@@ -31,12 +31,7 @@ impl Sheet {
         ensures answer { result ≡ checking self.now }
         ensures sets { MatchResult result (λ _. Covers self.now) (λ _. Shut (sheet_sets self.now)) }
     {
-        // An `if`, whose ways are answered apart: with `then_some` and `ok_or` the check alone does not prove `sets`.
-        if self.is_sound() {
-            Ok(())
-        } else {
-            Err(Refusal::Table)
-        }
+        self.is_sound().then_some(()).ok_or(Refusal::Table)
     }
 
     fn has_inside(&self, pair: (i32, i32)) -> bool
