@@ -20,8 +20,9 @@ pub trait Score {
     ghost HIGHEST_PENALTY: { ℕ };
 
     // The total before the first penalty.
-    fn start() -> u64
-        ensures { result ≡ meaning.start };
+    const START: u64;
+
+    ghost START: { ℕ };
 
     // The total after one penalty more.
     fn step(total: u64, penalty: u16) -> u64
@@ -34,6 +35,8 @@ pub trait Score {
     ghost cells_are: { MOST_CELLS ≡ meaning.most_cells };
 
     ghost penalty_is: { HIGHEST_PENALTY ≡ meaning.highest_penalty };
+
+    ghost start_is: { START ≡ meaning.start };
 
     ghost laws: { Laws meaning };
 }
@@ -53,15 +56,17 @@ impl Score for Sum {
 
     ghost HIGHEST_PENALTY = { sum_meaning.highest_penalty };
 
+    const START: u64 = 0;
+
+    ghost START = { sum_meaning.start };
+
     ghost cells_are = { refl };
 
     ghost penalty_is = { refl };
 
-    ghost laws = { Prim.search rules };
+    ghost start_is = { refl };
 
-    fn start() -> u64 {
-        0
-    }
+    ghost laws = { Prim.search rules };
 
     fn step(total: u64, penalty: u16) -> u64 {
         total.saturating_add(u64::from(penalty)).min(4_294_967_295)
@@ -87,15 +92,17 @@ impl Score for Shares {
 
     ghost HIGHEST_PENALTY = { shares_meaning.highest_penalty };
 
+    const START: u64 = 1;
+
+    ghost START = { shares_meaning.start };
+
     ghost cells_are = { refl };
 
     ghost penalty_is = { refl };
 
-    ghost laws = { Prim.search rules };
+    ghost start_is = { refl };
 
-    fn start() -> u64 {
-        1
-    }
+    ghost laws = { Prim.search rules };
 
     fn step(total: u64, penalty: u16) -> u64 {
         let share = 100 - u64::from(penalty.min(99));
@@ -122,5 +129,5 @@ pub fn total<S: Score>(penalties: &[u16]) -> u64
 {
     penalties
         .iter()
-        .fold(S::start(), |total, penalty| S::step(total, *penalty))
+        .fold(S::START, |total, penalty| S::step(total, *penalty))
 }

@@ -45,8 +45,8 @@ fn figures<S: Score>() -> (usize, u16) {
 
 #[test]
 fn figures_of_the_scores(rt: HostRuntime) {
-    assert_eq!(rt; Sum::start(), 0);
-    assert_eq!(rt; Shares::start(), 1);
+    assert_eq!(rt; Sum::START, 0);
+    assert_eq!(rt; Shares::START, 1);
     let cells = [
         Sum::MOST_CELLS,
         figures::<Sum>().0,
