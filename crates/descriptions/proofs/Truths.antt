@@ -1,5 +1,5 @@
 -- What is said of a text is true of it.
-use Rattle.std.proofs.Common.{◌≡◌, ℕ, true, false, cond, ◌&&◌, eqb, leb, List, length, take, drop, ℤ, Ok, Err, Result, sym, ap, ◌∙◌, subst, arith, length-take}
+use Rattle.std.proofs.Common.{◌≡◌, ℕ, Bool, true, false, cond, ◌&&◌, eqb, leb, List, length, take, drop, ℤ, Ok, Err, Result, sym, ap, ◌∙◌, subst, arith, length-take}
 use Rattle.std.proofs.lemmas.Bool.Decides.{not_from_Decides}
 use Rattle.std.proofs.lemmas.Bool.{and_parts, and_from, cond_both, eqb-true, le-leb}
 use Rattle.positions.specs.declared.Refusal.{Refusal}
@@ -76,3 +76,9 @@ module _ (t : Sheet) (s : List ℕ) where
 
   pub true_as : (k : Kind) → k ≡ kind_of t s → TrueOf t s k
   true_as k is = subst (TrueOf t s) (sym is) true_of
+
+  -- a text that is no date and no angle, and reads as a position, is on the sheet or off it
+  pub placed_as : (p : ℤ × ℤ) (on : Bool) → admits_date s ≡ false → is_angle axes.Latitude s ≡ false → is_angle axes.Longitude s ≡ false → reading s ≡ Ok p → (charted t).admits s ≡ on
+      → cond on (OnSheet p.0 p.1) (OffSheet p.0 p.1) ≡ kind_of t s
+  placed_as p on d y x e h =
+      sym ((λ i. cond (d i) Date (cond (y i) Latitude (cond (x i) Longitude (kind_at t s (e i))))) ∙ (λ i. cond (h i) (OnSheet p.0 p.1) (OffSheet p.0 p.1)))

@@ -23,6 +23,7 @@ impl Opening<'_> {
         all_digits(&self.text[0..figures.min(self.text.len())])
     }
 
+    // An opening that ends before the degrees, or before the minutes, is not refused for them: so each first asks its length.
     fn degrees_open(&self) -> bool
         ensures { result ≡ opening_degrees self.now.axis self.now.text.now }
     {

@@ -41,6 +41,7 @@ fn longest_of(month: u32) -> u32
     requires { within 1 12 month ≡ true }
     ensures { result ≡ longest month }
 {
+    // By `as`: no `From` makes a `usize` of a `u32`.
     u32::from(MONTHS[month as usize - 1])
 }
 
@@ -82,6 +83,7 @@ fn is_date(text: &[u8]) -> bool
     text.len() == 8 && all_digits(text) && is_day(day(text), month(text), year(text))
 }
 
+// An opening that ends before a part is not refused for it: so each first asks its length.
 fn day_opens(opening: &[u8]) -> bool
     ensures { result ≡ opening_day opening.now }
 {

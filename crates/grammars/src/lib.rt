@@ -106,6 +106,7 @@ impl<P: Grammar, Q: Grammar> Grammar for Then<P, Q> {
         self.head.is_admitted(head) && self.tail.is_admitted(tail)
     }
 
+    // Up to the cut the head alone is asked, and of the whole opening: so the length is tested.
     fn is_allowed(&self, opening: &[u8]) -> bool {
         let cut = usize::from(self.cut);
         if opening.len() <= cut {

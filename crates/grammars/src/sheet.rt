@@ -34,6 +34,7 @@ impl Sheet {
         self.is_sound().then_some(()).ok_or(Refusal::Table)
     }
 
+    // The pair is two plain numbers, as `read_position` gives it.
     fn has_inside(&self, pair: (i32, i32)) -> bool
         ensures { result ≡ on_sheet self.now pair }
     {

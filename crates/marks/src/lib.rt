@@ -1,6 +1,7 @@
 // Marks: a position is proposed, confirmed or rejected, and only a confirmed one is plotted.
 // A proposal and a confirmed mark are used up by their calls, and cannot be copied or dropped. They are two types, so
 // that the compiler turns a proposal away where a confirmed mark is wanted.
+// Latitude and longitude are two plain numbers in both, as a position is everywhere.
 #![tactic(auto)]
 
 ghost use Rattle.std.specs.Prelude.{◌≡◌, ◌++◌, length, take, drop, is_ok, IfOk, if◌then◌else◌};

@@ -146,17 +146,10 @@ opened line items place same h =
     let cells = line_of line in
     subst (λ n. Laid (line_bytes cells) place 0 (set place 0 n) 1 (flat_map cell_bytes cells)) (as_many line items same) (put (laid_none (line_bytes cells) place h))
 
--- the count of a cell's alternatives stands
-pub entered : {whole was place : List ℕ} {start at : ℕ} (line : Line) (items : List Cell) (i : ℕ) (d : Cell) (alternatives : Alternatives)
+-- the next thing to lay is the count of the cell's alternatives, and then they
+pub cell_in_hand : {whole was place : List ℕ} {start at : ℕ} {items : List Cell} {i : ℕ} {alternatives : Alternatives} (line : Line) (d : Cell)
     → items ≡ few_items line.cells → i < length items → alternatives ≡ cell_of (get_or items i d) → Laid whole was start place at (flat_map cell_bytes (drop i (line_of line)))
-    → Laid whole was start (set place at (length alternatives)) (at + 1) (flat_map alternative_bytes alternatives ++ flat_map cell_bytes (drop (i + 1) (line_of line)))
-entered line items i d alternatives same lt own h =
+    → Laid whole was start place at (length alternatives ∷ (flat_map alternative_bytes alternatives ++ flat_map cell_bytes (drop (i + 1) (line_of line))))
+cell_in_hand {items = items} {i = i} {alternatives = alternatives} line d same lt own h =
     let e = held line items i d alternatives same lt own in
-    put (cell_next (line_of line) i alternatives h e.below e.is)
-
-pub cell_room : {whole was place : List ℕ} {start at : ℕ} (line : Line) (items : List Cell) (i : ℕ) (d : Cell) (alternatives : Alternatives)
-    → items ≡ few_items line.cells → i < length items → alternatives ≡ cell_of (get_or items i d) → Laid whole was start place at (flat_map cell_bytes (drop i (line_of line)))
-    → at < length place
-cell_room line items i d alternatives same lt own h =
-    let e = held line items i d alternatives same lt own in
-    laid_room (cell_next (line_of line) i alternatives h e.below e.is)
+    cell_next (line_of line) i alternatives h e.below e.is

@@ -17,6 +17,7 @@ pub struct Alternative {
     pub penalty: u16,
 }
 
+// Neither has a `Model`, for the reason that `Few` has none: `cell_of` and `line_of` say what they stand for.
 #[derive(Clone, Copy)]
 pub struct Cell {
     pub(crate) alternatives: Few<Alternative, MOST_ALTERNATIVES>,

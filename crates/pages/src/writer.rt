@@ -49,6 +49,7 @@ pub fn write_line(line: &Line, place: &mut [u8]) -> Result<usize, PlaceFault>
         return Err(PlaceFault);
     }
     let cells = line.cells();
+    // By `as`: a line has at most 24 cells, and a cell 8 alternatives.
     place[0] = cells.len() as u8;
     // No loop counter: it is where the next byte stands, and moves by 1 and by 3.
     let mut at = 1;

@@ -1,5 +1,6 @@
 -- Texts and angles correspond one to one, for either axis.
-use Rattle.std.proofs.Common.{◌≡◌, ℕ, zero, suc, ◌+◌, ◌*◌, ◌/◌, ◌%◌, ◌^◌, ◌<◌, ◌≤◌, Bool, true, false, cond, ◌&&◌, eqb, ltb, leb, List, [], ◌∷◌, ◌++◌, length, get_or, take, drop, ℤ, pos, negsuc, neg_ℤ, nat_abs, Some, None, Ok, Err, Decides, Result, sym, refl, ap, ◌∙◌, subst, ⊎_elim, arith, MatchResult}
+use Rattle.std.proofs.Common.{◌≡◌, ℕ, zero, suc, ◌+◌, ◌*◌, ◌/◌, ◌%◌, ◌^◌, ◌<◌, ◌≤◌, Bool, true, false, cond, ◌&&◌, ◌==◌, eqb, ltb, leb, List, [], ◌∷◌, ◌++◌, length, get_or, take, drop, ℤ, pos, negsuc, neg_ℤ, nat_abs, Some, None, Ok, Err, Decides, Result, sym, refl, ap, ◌∙◌, subst, ⊎_elim, arith, MatchResult}
+use Rattle.std.proofs.Math.Bool.{and-false}
 use Rattle.std.proofs.lemmas.List.{append_assoc, length-append, length-take, length-drop, take_at, drop_at, drop-drop, take-append-drop, get_or_at, drop_more, drop_all}
 use Rattle.std.proofs.lemmas.Bool.{leb-true, ltb-true, lt-ltb, le-ltb, eqb-true, eq-eqb, and_parts, and_from, cond-true, cond-false, cond_both, cases_Bool}
 use Rattle.std.specs.Option.{ok_or, option_zip}
@@ -242,13 +243,22 @@ both_read true false y x = refl
 both_read false true y x = refl
 both_read false false y x = refl
 
--- 17 symbols read as the two angles that stand in them
-pub angles_read : (s : List ℕ) → length s ≡ 17 → ok_or (option_zip (angle_read Latitude (take 8 s)) (angle_read Longitude (drop 8 s))) Position ≡ reading s
-angles_read s l =
+-- what the first 8 symbols and the others read as is what the text reads as: two angles are 17 symbols long
+pub angles_read : (s : List ℕ) → ok_or (option_zip (angle_read Latitude (take 8 s)) (angle_read Longitude (drop 8 s))) Position ≡ reading s
+angles_read s =
     let y = take 8 s in
     let x = drop 8 s in
-    both_read (is_angle Latitude y) (is_angle Longitude x) (angle_of Latitude y) (angle_of Longitude x)
-    ∙ sym (λ i. cond (eq-eqb (length s) 17 l i && (is_angle Latitude y && is_angle Longitude x)) (Ok (pair_of s)) (Err Position))
+    let both = is_angle Latitude y && is_angle Longitude x in
+    let long : both ≡ (length s == 17 && both) =
+    ⊎_elim
+    (λ (yes' : both ≡ true).
+    let p = and_parts (is_angle Latitude y) (is_angle Longitude x) yes' in
+    let front = eqb-true (length y) 8 (and_parts (length y == 8) _ p.0).0 in
+    let back = eqb-true (length x) 9 (and_parts (length x == 9) _ p.1).0 in
+    sym (λ i. eq-eqb (length s) 17 (omega (arith, length-take 8 s, length-drop 8 s, front, back)) i && both))
+    (λ (no' : both ≡ false). no' ∙ sym ((λ i. length s == 17 && no' i) ∙ and-false (length s == 17)))
+    (cases_Bool both) in
+    both_read (is_angle Latitude y) (is_angle Longitude x) (angle_of Latitude y) (angle_of Longitude x) ∙ (λ i. cond (long i) (Ok (pair_of s)) (Err Position))
 
 -- what is read is the pair of its text, and what is refused is the text of no pair
 abbrev pub Said : List ℕ → Result (ℤ × ℤ) Refusal → Type 0

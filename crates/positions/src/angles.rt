@@ -4,7 +4,8 @@ ghost use Rattle.positions.specs.Angles.{figures_of, most_of, least_of, greatest
 
 use crate::numerals::{all_digits, number, write_number};
 
-// The two angles of a position. They differ in what these methods answer, and in nothing else.
+// The two angles of a position. They differ in what these methods answer, and in nothing else: each is a `match`, as
+// together they are the table of the two.
 #[derive(Clone, Copy, Debug, PartialEq, Eq)]
 pub enum Axis {
     Latitude,
@@ -47,6 +48,7 @@ impl Axis {
     fn greatest(self) -> i32
         ensures { result ≡ greatest_of self }
     {
+        // By `as`: it is at most 10,800,000, and `try_from` would only be unwrapped.
         (self.most_degrees() * 60_000) as i32
     }
 
@@ -120,7 +122,7 @@ impl Axis {
         self.read(text).is_some()
     }
 
-    // Fills a place as wide as the axis's texts.
+    // Fills a place as wide as the axis's texts, by hand as `write_number` does.
     pub(crate) fn write(self, angle: i32, place: &mut [u8])
         requires { length place.old ≡ width_of self }
         ensures { place.new ≡ angle_text self angle }
@@ -185,6 +187,7 @@ impl AngleText<'_> {
     fn angle(&self) -> i32
         ensures { result ≡ angle_of self.now.axis self.now.text.now }
     {
+        // By `as`: it is below 2^31.
         let magnitude = self.magnitude() as i32;
         if self.letter() == self.axis.negative() {
             -magnitude

@@ -31,10 +31,7 @@ pub fn read_position(text: &[u8]) -> Result<(i32, i32), Refusal>
     ensures answer { result ≡ reading text.now }
     ensures said { MatchResult result (λ p. Says text.now p.0 p.1) (λ _. (y x : ℤ) → Says text.now y x → ⊥) }
 {
-    if text.len() != 17 {
-        return Err(Refusal::Position);
-    }
-    let (latitude, longitude) = text.split_at(8);
+    let (latitude, longitude) = text.split_at_checked(8).ok_or(Refusal::Position)?;
     Axis::Latitude
         .read(latitude)
         .zip(Axis::Longitude.read(longitude))
@@ -48,7 +45,7 @@ pub fn is_pair(latitude: i32, longitude: i32) -> bool
     Axis::Latitude.is_in_range(latitude) && Axis::Longitude.is_in_range(longitude)
 }
 
-// Writes the text of a pair. What is written reads back as the same pair, and no other text does.
+// Writes the text of a pair into a place that is lent. What is written reads back as the same pair, and no other text does.
 pub fn write_position(pair: (i32, i32), place: &mut [u8]) -> Result<usize, Refusal>
     ensures answer { result ≡ writing pair.0 pair.1 (length place.old) }
     ensures written { place.new ≡ (if is_ok result then position_text pair.0 pair.1 ++ drop 17 place.old else place.old) }

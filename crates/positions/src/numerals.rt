@@ -20,7 +20,8 @@ pub fn number(figures: &[u8]) -> u32
     })
 }
 
-// Writes the last figures of `n`, as many as the place has. By index, since nothing is proved of a place that
+// Writes the last figures of `n`, as many as the place has. By hand, as a `Display` writes as many as there are, and asks
+// for memory or a writer; and a figure fits by `as`. By index, since nothing is proved of a place that
 // is written through `iter_mut().rev()`.
 #[tactic(auto, using(crate::proofs::Figures::written_more), unfolding(crate::specs::Numerals::numeral))]
 pub fn write_number(mut n: u32, place: &mut [u8])

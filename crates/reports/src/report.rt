@@ -22,6 +22,7 @@ pub struct Report {
 }
 
 // Why a page is not described: it is bad, or memory is wanting.
+#[derive(Clone, Copy, Debug, PartialEq, Eq)]
 pub enum Trouble {
     Page(PageFault),
     Memory(AllocError),

@@ -150,7 +150,7 @@ impl fmt::Display for InWords<'_, PageFault> {
     }
 }
 
-// What is wrong with the page, and in which line and cell, as a text of its own.
+// What is wrong with the page, and in which line and cell, as a text of its own. A function, as `InWords` is the crate's.
 pub fn explain(heap: Global, page: &[u8], fault: PageFault) -> Result<String, AllocError>
     ensures { IfOk result (λ s. string_bytes s ≡ page_words page.now fault) }
 {

@@ -14,15 +14,3 @@ returns-then-contains-2 c =
           day ∙ sym (λ i. year i && (month i && within 1 (length_of c.args.month c.args.year) c.args.day))
       | else-contains w ↦ search rules
     ]
-
-pub returns-else-contains-2 : goal.returns-else-contains-2
-returns-else-contains-2 c =
-    elim c.if-contains.branch [
-      | then-contains w ↦
-          let year : within 1900 2099 c.args.year ≡ true = search rules in
-          let month : within 1 12 c.args.month ≡ false = search rules in
-          c.if-contains-2.false ∙ sym (λ i. year i && (month i && within 1 (length_of c.args.month c.args.year) c.args.day))
-      | else-contains w ↦
-          let year : within 1900 2099 c.args.year ≡ false = search rules in
-          c.if-contains-2.false ∙ sym (λ i. year i && (within 1 12 c.args.month && within 1 (length_of c.args.month c.args.year) c.args.day))
-    ]

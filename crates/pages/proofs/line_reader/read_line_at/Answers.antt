@@ -1,5 +1,5 @@
-use Rattle.std.proofs.Common.{◌≡◌, ℕ, ◌+◌, List, map, length, IfOk, Ok, Err, Result, sym, refl, ap, ◌∙◌, subst, arith, lit<, rules}
-use Rattle.std.proofs.lemmas.List.{map_push, length_push, length-map}
+use Rattle.std.proofs.Common.{◌≡◌, ℕ, ◌+◌, List, map, length, IfOk, Ok, Err, Result, sym, refl, ap, ◌∙◌, subst, rules}
+use Rattle.std.proofs.lemmas.List.{map_push, length_push}
 use Rattle.std.proofs.lemmas.Result.{err_from_is_err_and}
 use Rattle.pages.specs.declared.lines.Line.{Line}
 use Rattle.pages.specs.declared.faults.LineFault.{LineFault}
@@ -9,7 +9,7 @@ use Rattle.pages.specs.Laws.{Stands}
 use Rattle.pages.specs.Writing.{line_bytes}
 use Rattle.pages.specs.Few.{few_items}
 use Rattle.pages.specs.Reading.{read_alternative, read_line}
-use Rattle.pages.proofs.Steps.{between_at, within_at, opened, no_line, enter, bad_count, ended, more, bad_alternative, leave, counts}
+use Rattle.pages.proofs.Steps.{between_at, within_at, opened, no_line, enter, bad_count, ended, more, bad_alternative, leave}
 use Rattle.pages.proofs.Shape.{WellFormedLine, line_from}
 use Rattle.pages.proofs.Round.{line_read}
 use Rattle.pages.proofs.line_reader.read_line_at.Goals as goal
@@ -35,18 +35,6 @@ loop-init c = (
   within_at c.empty-cell.ensures (enter c.loop-number.invariant c.in-Ok.due c.loop-number-test.true (sym c.in-Ok.ensures)),
   ap length c.empty-cell.ensures,
 )
-
-pub push-requires : goal.push-requires
-push-requires c =
-    let few = (counts 8 c.args.bytes.now c.loop-number.place c.in-Ok.due (sym c.in-Ok.ensures)).high in
-    let long = c.loop.invariant.1 in
-    (lit< tt, omega (arith, c.loop-test.true))
-
-pub push-requires-in-loop-number : goal.push-requires-in-loop-number
-push-requires-in-loop-number c =
-    let few = (counts 24 c.args.bytes.now c.args.at c.in_ok-count.count (sym c.in_ok-count.ensures)).high in
-    let long = length-map (few_items c.loop-number.cells) cell_of in
-    (lit< tt, omega (arith, c.loop-number-test.true))
 
 pub loop-preserved : goal.loop-preserved
 loop-preserved c = (

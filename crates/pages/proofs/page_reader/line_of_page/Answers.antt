@@ -7,7 +7,7 @@ use Rattle.pages.specs.declared.page_reader.IntoLines.{IntoLines}
 use Rattle.pages.specs.Reading.{line_numbered, read_page}
 use Rattle.pages.specs.Answers.{found_line, answer_of, answers_left}
 use Rattle.pages.specs.Laws.{Accepted, FirstWrong}
-use Rattle.pages.proofs.Paging.{left_few, keep_none, keep_more, keep_bad, keep_all}
+use Rattle.pages.proofs.Paging.{left_few, keep_more, keep_bad, keep_all}
 use Rattle.pages.proofs.Round.{Octets, accepted_exactly}
 use Rattle.pages.proofs.Earlier.{first_wrong}
 use Rattle.pages.proofs.page_reader.line_of_page.Goals as goal
@@ -34,9 +34,6 @@ begun c =
       ap enumerate_count it ∙ c.enumerate-number-items.ensures.count,
       ap (λ (s : IntoLines). s.left) (ap enumerate_source it ∙ c.enumerate-number-items.ensures.source) ∙ c.into_iter.ensures.into_iter_gives.from,
     )
-
-pub loop-number-init : goal.loop-number-init
-loop-number-init c = keep_none c.args.bytes.now c.args.wanted c.in_ok-open.field-0 (begun c).0 (begun c).1 c.in_ok-open.ensures
 
 pub loop-number-init-derived : goal.loop-number-init-derived
 loop-number-init-derived c =

@@ -2,7 +2,7 @@ use Rattle.std.proofs.Common.{◌+◌, get_or, drop, arith}
 use Rattle.std.specs.List.{flat_map}
 use Rattle.pages.specs.Answers.{line_of}
 use Rattle.pages.specs.Writing.{alternative_bytes, cell_bytes}
-use Rattle.pages.proofs.Writes.{as_many, laid_from, laid_through, put_part, alternative_next, cell_end, line_end, laid_all, next_room, laid_same, opened, entered, cell_room}
+use Rattle.pages.proofs.Writes.{as_many, laid_from, laid_through, put_part, alternative_next, line_end, laid_all, next_room, laid_same, opened, laid_room, put, cell_in_hand}
 use Rattle.pages.proofs.Shape.{line_parts}
 use Rattle.pages.proofs.Round.{reads_back}
 use Rattle.pages.proofs.writer.write_line.Goals as goal
@@ -13,27 +13,14 @@ loop-cell-init c =
 
 pub bounds-place-at : goal.bounds-place-at
 bounds-place-at c =
-    cell_room c.args.line.now c.cells-cells.result.now c.loop-cell.cell-index _ c.alternatives-alternatives.result.now
-    c.cells-cells.ensures.items c.loop-cell-test.true c.alternatives-alternatives.ensures.items c.loop-cell.invariant
-
-pub overflow_add-at : goal.overflow_add-at
-overflow_add-at c =
-    omega (
-      arith,
-      cell_room c.args.line.now c.cells-cells.result.now c.loop-cell.cell-index _ c.alternatives-alternatives.result.now
-          c.cells-cells.ensures.items c.loop-cell-test.true c.alternatives-alternatives.ensures.items c.loop-cell.invariant,
-    )
+    laid_room (cell_in_hand c.args.line.now _ c.cells-cells.ensures.items c.loop-cell-test.true c.alternatives-alternatives.ensures.items c.loop-cell.invariant)
 
 pub loop-a-init : goal.loop-a-init
 loop-a-init c =
-    laid_from (entered c.args.line.now c.cells-cells.result.now c.loop-cell.cell-index _ c.alternatives-alternatives.result.now
-    c.cells-cells.ensures.items c.loop-cell-test.true c.alternatives-alternatives.ensures.items c.loop-cell.invariant)
+    laid_from (put (cell_in_hand c.args.line.now _ c.cells-cells.ensures.items c.loop-cell-test.true c.alternatives-alternatives.ensures.items c.loop-cell.invariant))
 
 pub put_alternative-requires : goal.put_alternative-requires
 put_alternative-requires c = next_room c.alternatives-alternatives.result.now c.loop-a.a-index _ c.loop-a.invariant c.loop-a-test.true
-
-pub overflow_add-at-in-loop-a : goal.overflow_add-at-in-loop-a
-overflow_add-at-in-loop-a c = omega (arith, next_room c.alternatives-alternatives.result.now c.loop-a.a-index _ c.loop-a.invariant c.loop-a-test.true)
 
 pub loop-a-preserved : goal.loop-a-preserved
 loop-a-preserved c =
@@ -41,13 +28,6 @@ loop-a-preserved c =
     (put_part (alternative_bytes (get_or c.alternatives-alternatives.result.now c.loop-a.a-index (record { symbol = 0; penalty = 0 })))
     (alternative_next c.alternatives-alternatives.result.now c.loop-a.a-index (flat_map cell_bytes (drop (c.loop-cell.cell-index + 1) (line_of c.args.line.now)))
     (record { symbol = 0; penalty = 0 }) c.loop-a.invariant c.loop-a-test.true))
-
-pub loop-cell-preserved : goal.loop-cell-preserved
-loop-cell-preserved c =
-    laid_through
-    (entered c.args.line.now c.cells-cells.result.now c.loop-cell.cell-index _ c.alternatives-alternatives.result.now
-    c.cells-cells.ensures.items c.loop-cell-test.true c.alternatives-alternatives.ensures.items c.loop-cell.invariant)
-    (cell_end c.alternatives-alternatives.result.now c.loop-a.a-index _ c.loop-a.invariant c.loop-a-test.false)
 
 pub returns : goal.returns
 returns c =
