@@ -1,5 +1,5 @@
 -- What a bench holds after a place is put onto it or taken from it. Assumes nothing.
-use Rattle.std.proofs.Common.{◌≡◌, ℕ, zero, suc, ◌+◌, ◌<◌, ◌≤◌, Bool, true, false, cond, not, ◌&&◌, ◌||◌, eqb, ltb, leb, ◌⊎◌, List, [], ◌∷◌, ◌++◌, map, length, get_or, take, heap_items, sym, refl, ap, ◌∙◌, subst, inl, inr, ⊎_elim, arith, length-append, length-take, get_or-take}
+use Rattle.std.proofs.Common.{◌≡◌, ℕ, zero, suc, ◌+◌, ◌<◌, ◌≤◌, Bool, true, false, cond, not, ◌&&◌, ◌||◌, eqb, ltb, leb, ◌⊎◌, Contains, List, [], ◌∷◌, ◌++◌, map, length, get_or, take, heap_items, sym, refl, ap, ◌∙◌, subst, inl, inr, ⊎_elim, arith, length-append, length-take, get_or-take}
 use Rattle.std.specs.List.Sorted.{IsPermutation}
 use Rattle.std.specs.List.{AllByRecursion}
 use Rattle.std.proofs.lemmas.List.Sorted.{length_permutation}
@@ -9,7 +9,6 @@ use Rattle.std.proofs.lemmas.Bool.{and_parts, and_left, and_from, and_right, or_
 use Rattle.scores.specs.Scores.{Meaning}
 use Rattle.scores.specs.declared.Score.{Ghosts}
 use Rattle.grammars.specs.Grammars.{Texts}
-use Rattle.search.specs.Members.{Mem}
 use Rattle.pages.specs.Shape.{Cells}
 use Rattle.search.specs.Chains.{Chain, ChainOf, text, total, lower, before, last_raised, or_zero, raised, may_raise, children_below}
 use Rattle.bench.specs.declared.places.Place.{Place}
@@ -17,7 +16,7 @@ use Rattle.bench.specs.declared.Bench.{Bench}
 use Rattle.bench.specs.Order.{First, Before, Lower}
 use Rattle.bench.specs.Ranks.{ranks_of, chain_in}
 use Rattle.bench.specs.Held.{in_use, Placed, on_bench, once, times, Holds, Taken}
-use Rattle.bench.proofs.Counts.{once_self, times_append, times_shuffled, times_mem}
+use Rattle.bench.proofs.Counts.{once_self, times_append, times_shuffled, times_contains}
 
 -- what is in use, as chains
 pub many_on : {S : Type 0} {m : Ghosts S} (l : Cells) (bench : Bench S m) → length (on_bench l bench) ≡ in_use bench
@@ -112,12 +111,12 @@ module _ {S : Type 0} (s : Meaning) (l : Cells) where
       ⊎_elim (λ e. inl (one, back ∙ e)) (λ e. inr (one, back ∙ e.0, lower_in (length l) (ranks_of y.ranks.0) (ranks_of x.ranks.0) (lower_at _ _ e.1))) q.1
 
   unbeaten_in : (x : Place S) → x.grade.total ≡ total s l (chain_in l x.ranks.0) → (ys : List (Place S)) → First s.no_worse x ys → AllByRecursion (Placed s l) ys
-      → (d : Chain) → Mem d (map (chain_at l) ys) → before s l d (chain_in l x.ranks.0) ≡ false
-  unbeaten_in x ex [] first all d m = absurd m
-  unbeaten_in x ex (y ∷ ys) first all d (inl e) =
-      ⊎_elim (λ (h : before s l d (chain_in l x.ranks.0) ≡ true). absurd (first.0 (before_places y x all.0.1 ex (subst (λ z. before s l z (chain_in l x.ranks.0) ≡ true) e h))))
+      → (d : Chain) → Contains (map (chain_at l) ys) d → before s l d (chain_in l x.ranks.0) ≡ false
+  unbeaten_in x ex [] first all d (k, w, e) = absurd (omega arith)
+  unbeaten_in x ex (y ∷ ys) first all d (zero, w, e) =
+      ⊎_elim (λ (h : before s l d (chain_in l x.ranks.0) ≡ true). absurd (first.0 (before_places y x all.0.1 ex (subst (λ z. before s l z (chain_in l x.ranks.0) ≡ true) (sym e) h))))
       (λ h. h) (cases_Bool (before s l d (chain_in l x.ranks.0)))
-  unbeaten_in x ex (y ∷ ys) first all d (inr m) = unbeaten_in x ex ys first.1 all.1 d m
+  unbeaten_in x ex (y ∷ ys) first all d (suc k, w, e) = unbeaten_in x ex ys first.1 all.1 d (k, omega arith, e)
 
 module _ {S : Type 0} {m : Ghosts S} (s : Meaning) (l : Cells) where
   -- what is taken from a bench
@@ -128,7 +127,7 @@ module _ {S : Type 0} {m : Ghosts S} (s : Meaning) (l : Cells) where
       let placed = all_shuffled (Placed s l) xs (x ∷ rest) shuffled h.places in
       let others : (d : Chain) → times d (on_bench l was) ≡ once d (chain_at l x) + times d (map (chain_at l) rest) = λ d. sym (times_shuffled d (chain_at l) xs (x ∷ rest) shuffled) in
       record {
-        first = (times_mem (chain_at l x) (on_bench l was) (let here = others (chain_at l x) in let one = once_self (chain_at l x) in omega arith), unbeaten_in s l x placed.0.1 xs first h.places);
+        first = (times_contains (chain_at l x) (on_bench l was) (let here = others (chain_at l x) in let one = once_self (chain_at l x) in omega arith), unbeaten_in s l x placed.0.1 xs first h.places);
         others = others;
         fewer = length-map xs (chain_at l) ∙ sym (length_permutation xs (x ∷ rest) shuffled) ∙ (let e = length-map rest (chain_at l) in counted e);
       }

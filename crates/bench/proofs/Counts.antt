@@ -1,11 +1,12 @@
 -- How often a chain stands in a list: what that says of members, repetition and a heap's order. Assumes nothing.
-use Rattle.std.proofs.Common.{◌≡◌, ◌+◌, ◌<◌, ◌≤◌, true, eqb, ◌⊎◌, List, [], ◌∷◌, ◌++◌, map, sum_by, sym, refl, ap, ◌∙◌, subst, inl, inr, ⊎_elim, arith}
+use Rattle.std.proofs.Common.{◌≡◌, zero, suc, ◌+◌, ◌<◌, ◌≤◌, true, eqb, ◌⊎◌, Contains, List, [], ◌∷◌, ◌++◌, map, sum_by, sym, refl, ap, ◌∙◌, subst, inl, inr, ⊎_elim, arith}
 use Rattle.std.specs.List.Sorted.{IsPermutation}
 use Rattle.std.proofs.lemmas.List.Sorted.{sum_by-IsPermutation}
 use Rattle.std.proofs.lemmas.List.Sums.{sum_by-cons}
 use Rattle.std.proofs.lemmas.Bool.{and_parts, and_from, eqb-true, eq-eqb, cond-true, cond-false, cases_Bool, cases_lt, false≢true}
-use Rattle.search.specs.Members.{Mem, Distinct, Alike, Without}
+use Rattle.search.specs.Members.{Distinct, Alike, Without}
 use Rattle.search.specs.Chains.{Chain}
+use Rattle.search.proofs.Members.{Contains-first, Contains-rest}
 use Rattle.bench.specs.Held.{same, once, times}
 
 pub same_is : (a b : Chain) → same a b ≡ true → a ≡ b
@@ -44,34 +45,34 @@ times_sum c f (x ∷ xs) = ap (λ n. once c (f x) + n) (times_sum c f xs) ∙ sy
 pub times_shuffled : {P : Type 0} (c : Chain) (f : P → Chain) (xs ys : List P) → IsPermutation xs ys → times c (map f ys) ≡ times c (map f xs)
 times_shuffled c f xs ys h = times_sum c f ys ∙ sum_by-IsPermutation (λ p. once c (f p)) xs ys h ∙ sym (times_sum c f xs)
 
-pub mem_times : (c : Chain) (xs : List Chain) → Mem c xs → 1 ≤ times c xs
-mem_times c [] h = absurd h
-mem_times c (x ∷ xs) (inl e) = let one : once c x ≡ 1 = ap (once c) (sym e) ∙ once_self c in omega arith
-mem_times c (x ∷ xs) (inr h) = omega (arith, mem_times c xs h)
+pub contains_times : (c : Chain) (xs : List Chain) → Contains xs c → 1 ≤ times c xs
+contains_times c [] (k, l, e) = absurd (omega arith)
+contains_times c (x ∷ xs) (zero, l, e) = let one : once c x ≡ 1 = ap (once c) e ∙ once_self c in omega arith
+contains_times c (x ∷ xs) (suc k, l, e) = omega (arith, contains_times c xs (k, omega arith, e))
 
-pub times_mem : (c : Chain) (xs : List Chain) → 1 ≤ times c xs → Mem c xs
-times_mem c [] h = absurd (omega arith)
-times_mem c (x ∷ xs) h = ⊎_elim (λ e. inl e) (λ n. let none = once_other c x n in inr (times_mem c xs (omega arith))) (equal_or c x)
+pub times_contains : (c : Chain) (xs : List Chain) → 1 ≤ times c xs → Contains xs c
+times_contains c [] h = absurd (omega arith)
+times_contains c (x ∷ xs) h = ⊎_elim (λ e. rw e (Contains-first x xs)) (λ n. let none = once_other c x n in Contains-rest x xs c (times_contains c xs (omega arith))) (equal_or c x)
 
 pub distinct_times : (xs : List Chain) → Distinct xs → (c : Chain) → times c xs ≤ 1
 distinct_times [] d c = omega arith
 distinct_times (x ∷ xs) d c = ⊎_elim
     (λ (e : c ≡ x). let one : once c x ≡ 1 = ap (once c) (sym e) ∙ once_self c in
-    ⊎_elim (λ (k : 0 < times c xs). absurd (d.0 (subst (λ z. Mem z xs) e (times_mem c xs k)))) (λ k. omega arith) (cases_lt 0 (times c xs)))
+    ⊎_elim (λ (k : 0 < times c xs). absurd (d.0 (subst (Contains xs) e (times_contains c xs k)))) (λ k. omega arith) (cases_lt 0 (times c xs)))
     (λ n. let none = once_other c x n in omega (arith, distinct_times xs d.1 c))
     (equal_or c x)
 
 pub times_distinct : (xs : List Chain) → ((c : Chain) → times c xs ≤ 1) → Distinct xs
 times_distinct [] h = tt
 times_distinct (x ∷ xs) h = (
-  λ m. let one = once_self x in let two = h x in let more = mem_times x xs m in omega arith,
+  λ m. let one = once_self x in let two = h x in let more = contains_times x xs m in omega arith,
   times_distinct xs (λ c. let k = h c in omega arith),
 )
 
 -- lists in which each chain stands as often
 module _ (xs ys : List Chain) (h : (c : Chain) → times c xs ≡ times c ys) where
   pub alike_times : Alike xs ys
-  alike_times c = (λ m. let k = h c in times_mem c ys (omega (arith, mem_times c xs m)), λ m. let k = h c in times_mem c xs (omega (arith, mem_times c ys m)))
+  alike_times c = (λ m. let k = h c in times_contains c ys (omega (arith, contains_times c xs m)), λ m. let k = h c in times_contains c xs (omega (arith, contains_times c ys m)))
 
   pub distinct_alike : Distinct xs → Distinct ys
   distinct_alike d = times_distinct ys (λ c. let k = h c in omega (arith, distinct_times xs d c))
@@ -82,9 +83,9 @@ without_times m xs rest d h = record {
   once = times_distinct rest (λ c. let k = h c in omega (arith, distinct_times xs d c));
   holds = λ c. (
     λ k. (
-      let e = h c in times_mem c xs (omega (arith, mem_times c rest k)),
-      λ q. let e = h c in let one : once c m ≡ 1 = ap (once c) (sym q) ∙ once_self c in let more = mem_times c rest k in let most = distinct_times xs d c in omega arith,
+      let e = h c in times_contains c xs (omega (arith, contains_times c rest k)),
+      λ q. let e = h c in let one : once c m ≡ 1 = ap (once c) (sym q) ∙ once_self c in let more = contains_times c rest k in let most = distinct_times xs d c in omega arith,
     ),
-    λ k. let e = h c in let none = once_other c m k.1 in times_mem c rest (omega (arith, mem_times c xs k.0)),
+    λ k. let e = h c in let none = once_other c m k.1 in times_contains c rest (omega (arith, contains_times c xs k.0)),
   );
 }

@@ -1,5 +1,5 @@
 -- A look goes on in the ranking, and a search stops at the first that is admitted. Assumes nothing.
-use Rattle.std.proofs.Common.{◌≡◌, ℕ, zero, suc, ◌+◌, ◌-◌, ◌*◌, ◌<◌, ◌≤◌, Bool, true, false, cond, List, [], ◌∷◌, ◌++◌, length, take, drop, Some, None, Option, sym, refl, ap, ◌∙◌, subst, inl, ⊎_elim, mul_comm, mul-le-mul_left, mul-zero, mul-suc, arith}
+use Rattle.std.proofs.Common.{◌≡◌, ℕ, zero, suc, ◌+◌, ◌-◌, ◌*◌, ◌<◌, ◌≤◌, Bool, true, false, cond, List, [], ◌∷◌, ◌++◌, length, take, drop, Some, None, Option, sym, refl, ap, ◌∙◌, subst, ⊎_elim, mul_comm, mul-le-mul_left, mul-zero, mul-suc, arith}
 use Rattle.std.specs.List.{AllByRecursion}
 use Rattle.std.proofs.lemmas.List.{drop-drop, drop-take, nil_from_length}
 use Rattle.std.proofs.lemmas.Bool.{cases_lt, cond-true, cond-false}
@@ -8,12 +8,11 @@ use Rattle.scores.specs.Scores.{Meaning, Laws}
 use Rattle.scores.specs.declared.Score.{Ghosts}
 use Rattle.grammars.specs.Grammars.{Texts, Sets, Lawful}
 use Rattle.pages.proofs.Shape.{line_parts}
-use Rattle.search.specs.Members.{Mem}
 use Rattle.search.specs.BestFirst.{Frontier, Least}
 use Rattle.pages.specs.Shape.{Cells, well_formed_line}
 use Rattle.search.specs.Chains as chains
 use Rattle.search.specs.Chains.{Chain, ChainOf, before, children, lowered, ranking, root}
-use Rattle.search.proofs.Members.{take_next, drop_next, mem_drop}
+use Rattle.search.proofs.Members.{Contains-first, Contains-drop, take_next, drop_next}
 use Rattle.search.proofs.Ranking.{ranked}
 use Rattle.search.proofs.Growth.{chains_best_first, small}
 use Rattle.bench.specs.declared.Bench.{Bench}
@@ -58,7 +57,7 @@ module _ {S : Type 0} {m : Ghosts S} (s : Meaning) (laws : Laws s) (g : Sets) (l
     -- the chain looked at is one of the line, and the reading begins with its text
     look_text : (n : ℕ) → n ≡ length l → take n reading.text ≡ chains.text l seen.chain
     look_text n e =
-        let chain : ChainOf l seen.chain = (((ranked s laws g l).exactly_live seen.chain).0 (mem_drop seen.chain k (ranking s g.allows l) ((h.frontier.holds seen.chain).0 seen.chosen.first.0).0)).0 in
+        let chain : ChainOf l seen.chain = (((ranked s laws g l).exactly_live seen.chain).0 (Contains-drop k (ranking s g.allows l) seen.chain ((h.frontier.holds seen.chain).0 seen.chosen.first.0).0)).0 in
         ap (λ r. take n r.text) seen.reads ∙ front (chains.text l seen.chain) _ n (text_long l seen.chain chain.long ∙ sym e)
 
     look_agrees : k < granted → AgreesAt s g.allows l (k + 1) granted is
@@ -221,4 +220,4 @@ pub due_chain : (s : Meaning) → Laws s → (g : Sets) (l : Cells) (looked gran
 due_chain s laws g l looked granted n c first =
     let rk = ranking s g.allows l in
     let at = due_at n (granted - looked) (drop looked rk) c _ first.here in
-    (((ranked s laws g l).exactly_live c).0 (mem_drop c looked rk (mem_drop c n (drop looked rk) (subst (Mem c) (sym at.1) (inl refl))))).0
+    (((ranked s laws g l).exactly_live c).0 (Contains-drop looked rk c (Contains-drop n (drop looked rk) c (rw at.1 (Contains-first c _))))).0

@@ -31,19 +31,25 @@ impl<'a> Chain<'a> {
         }
     }
 
+    // The alternative that it takes in a cell, and an empty one past the last cell. A `match`: what is taken is looked up in
+    // the cell that was found.
+    fn alternative(&self, cell: usize) -> Alternative
+        ensures { result ≡ slice_index_or (slice_index_or (cells_of self.now) cell []) (slice_index (chosen self.now) cell) no_alt }
+    {
+        match self.line.cells().get(cell) {
+            Some(found) => found.alternatives()[usize::from(self.ranks.rank(cell))],
+            None => Alternative {
+                symbol: 0,
+                penalty: 0,
+            },
+        }
+    }
+
     // The alternative that it takes in each cell, and an empty one past the last cell, held in place.
     fn taken(&self) -> [Alternative; MOST_CELLS]
         ensures { result ≡ taken (cells_of self.now) (chosen self.now) ++ replicate (24 - length (cells_of self.now)) no_alt }
     {
-        let mut taken = [Alternative {
-            symbol: 0,
-            penalty: 0,
-        }; MOST_CELLS];
-        // By the index: nothing is known of what a loop over `iter_mut` with another iterator beside it has written.
-        for (i, cell) in self.line.cells().iter().enumerate() {
-            taken[i] = cell.alternatives()[usize::from(self.ranks.rank(i))];
-        }
-        taken
+        std::array::from_fn(|cell| self.alternative(cell))
     }
 
     // Its text, and 0 past its end, held in place.
@@ -68,7 +74,8 @@ impl<'a> Chain<'a> {
         self.ranks.last_raised(self.line.cells().len())
     }
 
-    // The chain with one cell raised by one more, where the cell has another alternative behind the one that is taken.
+    // The chain with one cell raised by one more, where the cell has another alternative behind the one that is taken. An
+    // `if`, since by `then` the closure would have to ask for what the test says.
     pub(crate) fn raised(&self, cell: usize) -> Option<Chain<'a>>
         requires { cell < length (cells_of self.now) }
         ensures { MatchOption result (length (slice_index_or (cells_of self.now) cell []) ≤ slice_index (chosen self.now) cell + 1) (λ child. (slice_index (chosen self.now) cell + 1 < length (slice_index_or (cells_of self.now) cell [])) × (cells_of child ≡ cells_of self.now) × (chosen child ≡ raised (chosen self.now) cell)) }

@@ -65,7 +65,8 @@ impl<S: Score> Bench<S> {
         Ok(Bench { places })
     }
 
-    // Puts a chain onto the bench, with its total.
+    // Puts a chain onto the bench, with its total. The room asked for is each call's own: here a place, for children as many
+    // as there are cells, for a look one less.
     fn put(&mut self, chain: Chain<'_>)
         requires holds { Holds S.Score.meaning (cells_of chain) self.old (on_bench (cells_of chain) self.old) }
         requires room { length (on_bench (cells_of chain) self.old) < 4096 }
@@ -148,7 +149,8 @@ impl<S: Score> Bench<S> {
         })
     }
 
-    // Looks at chains up to one that the grammar admits, while fewer than `granted` have been looked at.
+    // Looks at chains up to one that the grammar admits, while fewer than `granted` have been looked at. Grammar and line
+    // are two arguments, as in `look`.
     pub fn seek<G: Grammar>(
         &mut self,
         grammar: &G,

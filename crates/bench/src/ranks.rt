@@ -6,7 +6,8 @@ ghost use Rattle.bench.specs.Ranks.{ranks_of};
 use pages::MOST_CELLS;
 
 // The rank that a chain takes in each cell, and 0 past the last cell, held in place. They are ordered by the rank in the
-// first cell where they differ.
+// first cell where they differ. Each call asks for a cell below 24 as an array's index does: a type for such a number
+// would be asked for it where it is made. No `Model`, as `ranks_of` names the one field, and the type is the crate's own.
 #[derive(Clone, Copy, PartialEq, Eq, PartialOrd, Ord)]
 pub(crate) struct Ranks {
     each: [u8; MOST_CELLS],

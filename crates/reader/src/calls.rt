@@ -15,6 +15,7 @@ use std::alloc::{AllocError, Global};
 // The most that cells times granted may come to: no bench then runs out of places.
 const MOST_GRANTED: usize = 4095;
 
+// No `Model`, of which `view` would be the value: a clause would see nothing else, and `Agrees` speaks of the bench.
 #[derive(Drop)]
 pub struct Reader<G, S: Score> {
     grammar: G,

@@ -42,7 +42,7 @@ impl From<PageFault> for Refusal {
     }
 }
 
-// The fault says no more than the case, so it is not held.
+// Written out, as the one above. The fault says no more than the case, so it is not held.
 impl From<PlaceFault> for Refusal {
     ghost from_gives = { λ _ r. r ≡ Refusals.Place };
 

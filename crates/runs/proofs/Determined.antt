@@ -6,9 +6,9 @@ use Rattle.std.proofs.lemmas.Bool.{both_ways}
 use Rattle.scores.specs.Scores.{Meaning, Laws}
 use Rattle.grammars.specs.Grammars.{Sets}
 use Rattle.pages.specs.Shape.{Cells}
-use Rattle.search.specs.Members.{Mem, Distinct}
+use Rattle.search.specs.Members.{Distinct}
 use Rattle.search.specs.Chains.{Chain, text, before}
-use Rattle.search.proofs.Members.{mem_drop, ascending_distinct}
+use Rattle.search.proofs.Members.{Contains-first, Contains-drop, ascending_distinct}
 use Rattle.search.proofs.Order.{before_self, before_trans}
 use Rattle.search.proofs.Ranking.{ranked}
 use Rattle.reader.specs.declared.calls.Outcome.TheVariants.{Found}
@@ -26,11 +26,11 @@ one_place zero zero cs c xs ys d p q = refl
 one_place zero (suc k) [] c xs ys d p q = cc
 one_place zero (suc k) (x ∷ cs) c xs ys d p q =
     let here : x ≡ c = cc in
-    absurd (d.0 (mem_drop x k cs (subst (Mem x) (sym q) (inl here))))
+    absurd (d.0 (Contains-drop k cs x (rw (q, here) (Contains-first c ys))))
 one_place (suc j) k [] c xs ys d p q = cc
 one_place (suc j) zero (x ∷ cs) c xs ys d p q =
     let here : x ≡ c = cc in
-    absurd (d.0 (mem_drop x j cs (subst (Mem x) (sym p) (inl here))))
+    absurd (d.0 (Contains-drop j cs x (rw (p, here) (Contains-first c xs))))
 one_place (suc j) (suc k) (x ∷ cs) c xs ys d p q = ap suc (one_place j k cs c xs ys d.1 p q)
 
 -- the refusal of a next

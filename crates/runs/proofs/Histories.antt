@@ -1,16 +1,17 @@
 -- Why each call makes a lawful moment. Assumes nothing.
-use Rattle.std.proofs.Common.{◌≡◌, ℕ, suc, ◌+◌, ◌-◌, ◌<◌, ◌≤◌, true, false, ◌⊎◌, ◌↔◌, List, [], ◌∷◌, length, take, drop, Some, sym, refl, ap, ◌∙◌, subst, inl, inr, ⊎_elim, arith, length-drop}
+use Rattle.std.proofs.Common.{◌≡◌, ℕ, suc, ◌+◌, ◌-◌, ◌<◌, ◌≤◌, true, false, ◌⊎◌, ◌↔◌, Contains, List, [], ◌∷◌, length, take, drop, Some, sym, refl, ap, ◌∙◌, subst, inl, inr, ⊎_elim, arith, length-drop}
 use Rattle.std.specs.List.{AllByRecursion}
 use Rattle.std.proofs.lemmas.List.{take-take, drop-drop}
+use Rattle.std.proofs.lemmas.List.Elements.{All-contains, All-from_recursion, Contains-push, Contains-push_cases}
 use Rattle.std.proofs.lemmas.Slice.{between_is}
 use Rattle.std.proofs.lemmas.Bool.{both_ways, cases_lt}
 use Rattle.scores.specs.Scores.{Meaning, Laws}
 use Rattle.grammars.specs.Grammars as grammars
 use Rattle.grammars.specs.Grammars.{Sets}
-use Rattle.search.specs.Members.{Mem, Ascending}
+use Rattle.search.specs.Members.{Ascending}
 use Rattle.pages.specs.Shape.{Cells}
 use Rattle.search.specs.Chains.{Chain, ChainOf, before}
-use Rattle.search.proofs.Members.{mem_right, mem_append, mem_halves, mem_take, mem_drop, take_next, ascending_drop, ascending_across}
+use Rattle.search.proofs.Members.{Contains-first, Contains-rest, Contains-cons_cases, no_member, Contains-halves, Contains-take, Contains-drop, take_next, ascending_across, ascending_next}
 use Rattle.search.proofs.Order.{before_self}
 use Rattle.search.proofs.Ranking.{ranked}
 use Rattle.search.proofs.Texts as texts
@@ -24,13 +25,11 @@ use Rattle.runs.specs.Steps.{Tracks}
 abbrev pub NoneAdmitted : Sets → Cells → List Chain → Type 0
 NoneAdmitted g l cs = AllByRecursion (λ d. admitted g l d ≡ false) cs
 
-shut : (g : Sets) (l : Cells) (cs : List Chain) (d : Chain) → NoneAdmitted g l cs → Mem d cs → admitted g l d ≡ true → ⊥
-shut g l [] d none m a = m
-shut g l (x ∷ cs) d none (inl e) a = both_ways (admitted g l x) none.0 (subst (λ d. admitted g l d ≡ true) e a)
-shut g l (x ∷ cs) d none (inr m) a = shut g l cs d none.1 m a
+shut : (g : Sets) (l : Cells) (cs : List Chain) (d : Chain) → NoneAdmitted g l cs → Contains cs d → admitted g l d ≡ true → ⊥
+shut g l cs d none m = both_ways (admitted g l d) (All-contains (λ d. admitted g l d ≡ false) cs d (All-from_recursion (λ d. admitted g l d ≡ false) cs none) m)
 
-mem_more : (c : Chain) (k m : ℕ) (cs : List Chain) → k ≤ m → Mem c (take k cs) → Mem c (take m cs)
-mem_more c k m cs le h = mem_take c k (take m cs) (subst (Mem c) (sym (take-take k m cs le)) h)
+looked_more : (c : Chain) (k m : ℕ) (cs : List Chain) → k ≤ m → Contains (take k cs) c → Contains (take m cs) c
+looked_more c k m cs le h = Contains-take k (take m cs) c (rw (take-take k m cs le) h)
 
 pub tracks_start : (s : Meaning) (g : Sets) → Tracks s g [] unloaded
 tracks_start s g = record {
@@ -40,7 +39,7 @@ tracks_start s g = record {
   handed_is = refl;
   within = omega arith;
   reached = λ l e. omega arith;
-  seen = λ l e c. (λ m. absurd m, λ q. absurd q.0);
+  seen = λ l e c. (λ m. absurd (no_member c m), λ q. absurd (no_member c q.0));
 }
 
 -- after a lawful moment the history agrees with what is then seen of the reader
@@ -64,7 +63,7 @@ module _ (s : Meaning) (g : Sets) (h : List Moment) (v : View) (t : Tracks s g h
     best_unseen = λ l c el ee. absurd (not_next (subst IsNext (sym ee) tt));
     never_above_grant = let k = t.within in omega arith;
     never_past_end = λ l el. t.reached l (sym same_line ∙ el);
-    first_looked_handed = λ l el c. subst (λ cs. Mem c cs ↔ (Mem c (take (looked_in h) (live_chains s g l)) × (admitted g l c ≡ true))) (sym same_handed) (t.seen l (sym same_line ∙ el) c);
+    first_looked_handed = λ l el c. subst (λ cs. Contains cs c ↔ (Contains (take (looked_in h) (live_chains s g l)) c × (admitted g l c ≡ true))) (sym same_handed) (t.seen l (sym same_line ∙ el) c);
     found_exactly_when = λ l el n. absurd (not_next n);
     exhausted_exactly_when = λ l el n. absurd (not_next n);
     spent_exactly_when = λ l el n. absurd (not_next n);
@@ -86,7 +85,7 @@ module _ (s : Meaning) (g : Sets) (h : List Moment) (v : View) (t : Tracks s g h
     best_unseen = λ l' c el e. absurd (subst IsNext (sym e) tt);
     never_above_grant = omega arith;
     never_past_end = λ l' el. omega arith;
-    first_looked_handed = λ l' el c. (λ m. absurd m, λ q. absurd q.0);
+    first_looked_handed = λ l' el c. (λ m. absurd (no_member c m), λ q. absurd (no_member c q.0));
     found_exactly_when = λ l' el n. absurd n;
     exhausted_exactly_when = λ l' el n. absurd n;
     spent_exactly_when = λ l' el n. absurd n;
@@ -99,14 +98,14 @@ module _ (s : Meaning) (laws : Laws s) (g : Sets) (lawful : grammars.Lawful g) (
   rising = (ranked s laws g l).in_order
 
   -- by the third law of grammars what is admissible is live
-  admissible_live : (c : Chain) → Admissible g l c → Mem c (live_chains s g l)
+  admissible_live : (c : Chain) → Admissible g l c → Contains (live_chains s g l) c
   admissible_live c a = ((ranked s laws g l).exactly_live c).1 (a.0, texts.admissible_live g lawful l c a.1)
 
-  live_chain : (c : Chain) → Mem c (live_chains s g l) → ChainOf l c
+  live_chain : (c : Chain) → Contains (live_chains s g l) c → ChainOf l c
   live_chain c m = (((ranked s laws g l).exactly_live c).0 m).0
 
   -- none stands both among the first k and behind them
-  apart : (k : ℕ) (c : Chain) → Mem c (take k (live_chains s g l)) → Mem c (drop k (live_chains s g l)) → ⊥
+  apart : (k : ℕ) (c : Chain) → Contains (take k (live_chains s g l)) c → Contains (drop k (live_chains s g l)) c → ⊥
   apart k c a b = both_ways (before s l c c) (before_self s laws l c) (ascending_across (before s l) k (live_chains s g l) rising c c a b)
 
   module _ (h : List Moment) (v : View) (t : Tracks s g h v) (el : line_in h ≡ Some l) where
@@ -115,26 +114,26 @@ module _ (s : Meaning) (laws : Laws s) (g : Sets) (lawful : grammars.Lawful g) (
     this l' q = cc
 
     -- one of the first m is among those looked at, or among the next m - looked
-    split : (m : ℕ) (d : Chain) → Mem d (take m (live_chains s g l)) → Mem d (take (looked_in h) (live_chains s g l)) ⊎ Mem d (take (m - looked_in h) (drop (looked_in h) (live_chains s g l)))
+    split : (m : ℕ) (d : Chain) → Contains (take m (live_chains s g l)) d → Contains (take (looked_in h) (live_chains s g l)) d ⊎ Contains (take (m - looked_in h) (drop (looked_in h) (live_chains s g l))) d
     split m d mem = ⊎_elim
         (λ a. inl (back a))
-        (λ b. inr (subst (Mem d) (sym (between_is (live_chains s g l) (looked_in h) m)) b))
-        (mem_halves d (looked_in h) (take m (live_chains s g l)) mem)
+        (λ b. inr (rw (between_is (live_chains s g l) (looked_in h) m) b))
+        (Contains-halves (looked_in h) (take m (live_chains s g l)) d mem)
       where
-        back : Mem d (take (looked_in h) (take m (live_chains s g l))) → Mem d (take (looked_in h) (live_chains s g l))
+        back : Contains (take (looked_in h) (take m (live_chains s g l))) d → Contains (take (looked_in h) (live_chains s g l)) d
         back a = ⊎_elim
-            (λ (lt : m < looked_in h). mem_more d m (looked_in h) (live_chains s g l) (omega arith) mem)
-            (λ (le : looked_in h ≤ m). subst (Mem d) (take-take (looked_in h) m (live_chains s g l) le) a)
+            (λ (lt : m < looked_in h). looked_more d m (looked_in h) (live_chains s g l) (omega arith) mem)
+            (λ (le : looked_in h ≤ m). rw (take-take (looked_in h) m (live_chains s g l) le) at a)
             (cases_lt m (looked_in h))
 
     -- a next that passes over all that is due, with m looked at in the end
     module _ (m : ℕ) (least : looked_in h ≤ m) (most : m ≤ granted_in h) (whole : m ≤ length (live_chains s g l)) (none : NoneAdmitted g l (due s g l (looked_in h) (granted_in h))) where
-      none_handed : (d : Chain) → Mem d (handed_in h) ↔ (Mem d (take m (live_chains s g l)) × (admitted g l d ≡ true))
+      none_handed : (d : Chain) → Contains (handed_in h) d ↔ (Contains (take m (live_chains s g l)) d × (admitted g l d ≡ true))
       none_handed d = (
-        λ k. let q = (t.seen l el d).0 k in (mem_more d (looked_in h) m (live_chains s g l) least q.0, q.1),
+        λ k. let q = (t.seen l el d).0 k in (looked_more d (looked_in h) m (live_chains s g l) least q.0, q.1),
         λ q. ⊎_elim
             (λ a. (t.seen l el d).1 (a, q.1))
-            (λ b. absurd (shut g l (due s g l (looked_in h) (granted_in h)) d none (mem_more d (m - looked_in h) (granted_in h - looked_in h) (drop (looked_in h) (live_chains s g l)) (omega arith) b) q.1))
+            (λ b. absurd (shut g l (due s g l (looked_in h) (granted_in h)) d none (looked_more d (m - looked_in h) (granted_in h - looked_in h) (drop (looked_in h) (live_chains s g l)) (omega arith) b) q.1))
             (split m d q.0),
       )
 
@@ -150,8 +149,8 @@ module _ (s : Meaning) (laws : Laws s) (g : Sets) (lawful : grammars.Lawful g) (
         best_unseen = λ l' c el' ee. absurd (not_found (subst IsFound (sym ee) tt));
         never_above_grant = omega (arith, same_granted);
         never_past_end = λ l' el'. subst (λ z. m ≤ length (live_chains s g z)) (this l' (sym same_line ∙ el')) whole;
-        first_looked_handed = λ l' el' c. subst (λ cs. Mem c cs ↔ (Mem c (take m (live_chains s g l')) × (admitted g l' c ≡ true))) (sym same_handed)
-            (subst (λ z. Mem c (handed_in h) ↔ (Mem c (take m (live_chains s g z)) × (admitted g z c ≡ true))) (this l' (sym same_line ∙ el')) (none_handed c));
+        first_looked_handed = λ l' el' c. subst (λ cs. Contains cs c ↔ (Contains (take m (live_chains s g l')) c × (admitted g l' c ≡ true))) (sym same_handed)
+            (subst (λ z. Contains (handed_in h) c ↔ (Contains (take m (live_chains s g z)) c × (admitted g z c ≡ true))) (this l' (sym same_line ∙ el')) (none_handed c));
         found_exactly_when = λ l' el' n. (λ f. absurd (not_found f), λ q. absurd (none_unseen (subst (λ z. UnseenWithin s g h z (granted_in h)) (sym (this l' el')) q)));
         exhausted_exactly_when = λ l' el' n f. subst (λ z. (e ≡ exhausted) ↔ (length (live_chains s g z) ≤ m)) (this l' el') ex;
         spent_exactly_when = λ l' el' n f. subst (λ z. (e ≡ spent) ↔ ((m < length (live_chains s g z)) × (m ≡ granted_in h))) (this l' el') sp;
@@ -181,17 +180,17 @@ module _ (s : Meaning) (laws : Laws s) (g : Sets) (lawful : grammars.Lawful g) (
       passed : NoneAdmitted g l (take n (drop (looked_in h) (live_chains s g l)))
       passed = let lt = where_due.0 in subst (NoneAdmitted g l) (take-take n (granted_in h - looked_in h) (drop (looked_in h) (live_chains s g l)) (omega arith)) first.passed_over
 
-      c_behind : Mem c (drop (looked_in h) (live_chains s g l))
-      c_behind = mem_drop c n (drop (looked_in h) (live_chains s g l)) (subst (Mem c) (sym where_due.1) (inl refl))
+      c_behind : Contains (drop (looked_in h) (live_chains s g l)) c
+      c_behind = Contains-drop n (drop (looked_in h) (live_chains s g l)) c (rw where_due.1 (Contains-first c _))
 
-      c_live : Mem c (live_chains s g l)
-      c_live = mem_drop c (looked_in h) (live_chains s g l) c_behind
+      c_live : Contains (live_chains s g l) c
+      c_live = Contains-drop (looked_in h) (live_chains s g l) c c_behind
 
-      c_new : Mem c (handed_in h) → ⊥
+      c_new : Contains (handed_in h) c → ⊥
       c_new m = apart (looked_in h) c ((t.seen l el c).0 m).0 c_behind
 
-      c_within : Mem c (take (looked_in h + n + 1) (live_chains s g l))
-      c_within = subst (Mem c) (sym (take_next (looked_in h + n) (live_chains s g l) c _ stands)) (mem_right c (take (looked_in h + n) (live_chains s g l)) (c ∷ []) (inl refl))
+      c_within : Contains (take (looked_in h + n + 1) (live_chains s g l)) c
+      c_within = rw (take_next (looked_in h + n) (live_chains s g l) c _ stands) (Contains-push (take (looked_in h + n) (live_chains s g l)) c)
 
       in_grant : looked_in h + n + 1 ≤ granted_in h
       in_grant = let lt = where_due.0 in let w = t.within in omega arith
@@ -199,42 +198,40 @@ module _ (s : Meaning) (laws : Laws s) (g : Sets) (lawful : grammars.Lawful g) (
       in_all : looked_in h + n + 1 ≤ length (live_chains s g l)
       in_all = let e : length (drop (looked_in h + n) (live_chains s g l)) ≡ suc (length (drop (looked_in h + n + 1) (live_chains s g l))) = ap length stands in omega (arith, length-drop (looked_in h + n) (live_chains s g l))
 
-      best : (d : Chain) → Admissible g l d → (Mem d (handed_in h) → ⊥) → (d ≡ c) ⊎ (before s l c d ≡ true)
+      best : (d : Chain) → Admissible g l d → (Contains (handed_in h) d → ⊥) → (d ≡ c) ⊎ (before s l c d ≡ true)
       best d a new = ⊎_elim
-          (λ k. absurd (new ((t.seen l el d).1 (k, a.1))))
           (λ k. ⊎_elim
-          (λ q. absurd (shut g l (take n (drop (looked_in h) (live_chains s g l))) d passed q a.1))
-          (λ q. ⊎_elim (λ e. inl e) (λ m. inr (up.0 d m)) (subst (Mem d) where_due.1 q))
-          (mem_halves d n (drop (looked_in h) (live_chains s g l)) k))
-          (mem_halves d (looked_in h) (live_chains s g l) (admissible_live d a))
-        where
-          up : Ascending (before s l) (c ∷ drop (n + 1) (drop (looked_in h) (live_chains s g l)))
-          up = subst (Ascending (before s l)) where_due.1 (ascending_drop (before s l) n (drop (looked_in h) (live_chains s g l)) (ascending_drop (before s l) (looked_in h) (live_chains s g l) rising))
+          (λ q. absurd (new ((t.seen l el d).1 (q, a.1))))
+          (λ q. let e : looked_in h + n - looked_in h ≡ n = omega arith in absurd (shut g l (take n (drop (looked_in h) (live_chains s g l))) d passed (rw e at q) a.1))
+          (split (looked_in h + n) d k))
+          (λ k. ⊎_elim (λ e. inl e) (λ m. inr (ascending_next (before s l) (looked_in h + n) (live_chains s g l) rising c _ stands d m)) (Contains-cons_cases c _ d (rw stands at k)))
+          (Contains-halves (looked_in h + n) (live_chains s g l) d (admissible_live d a))
 
-      found_handed : (d : Chain) → Mem d (c ∷ handed_in h) ↔ (Mem d (take (looked_in h + n + 1) (live_chains s g l)) × (admitted g l d ≡ true))
+      found_handed : (d : Chain) → Contains (c ∷ handed_in h) d ↔ (Contains (take (looked_in h + n + 1) (live_chains s g l)) d × (admitted g l d ≡ true))
       found_handed d = (
         λ k. ⊎_elim
-            (λ (e : d ≡ c). subst (λ z. Mem z (take (looked_in h + n + 1) (live_chains s g l)) × (admitted g l z ≡ true)) (sym e) (c_within, first.passes))
-            (λ m. let q = (t.seen l el d).0 m in (mem_more d (looked_in h) (looked_in h + n + 1) (live_chains s g l) (omega arith) q.0, q.1)) k,
+            (λ (e : d ≡ c). subst (λ z. Contains (take (looked_in h + n + 1) (live_chains s g l)) z × (admitted g l z ≡ true)) (sym e) (c_within, first.passes))
+            (λ m. let q = (t.seen l el d).0 m in (looked_more d (looked_in h) (looked_in h + n + 1) (live_chains s g l) (omega arith) q.0, q.1))
+            (Contains-cons_cases c (handed_in h) d k),
         λ q. ⊎_elim
-            (λ a. inr ((t.seen l el d).1 (a, q.1)))
+            (λ a. Contains-rest c (handed_in h) d ((t.seen l el d).1 (a, q.1)))
             (λ b. ⊎_elim
             (λ z. absurd (shut g l (take n (drop (looked_in h) (live_chains s g l))) d passed z q.1))
-            (λ z. ⊎_elim (λ e. inl e) (λ y. absurd y) z)
-            (mem_append d (take n (drop (looked_in h) (live_chains s g l))) (c ∷ []) (subst (Mem d) (take_next n (drop (looked_in h) (live_chains s g l)) c _ where_due.1) (one_more b))))
+            (λ (e : c ≡ d). subst (Contains (c ∷ handed_in h)) e (Contains-first c (handed_in h)))
+            (Contains-push_cases (take n (drop (looked_in h) (live_chains s g l))) c d (rw (take_next n (drop (looked_in h) (live_chains s g l)) c _ where_due.1) at (one_more b))))
             (split (looked_in h + n + 1) d q.0),
       )
         where
-          one_more : Mem d (take ((looked_in h + n + 1) - looked_in h) (drop (looked_in h) (live_chains s g l))) → Mem d (take (n + 1) (drop (looked_in h) (live_chains s g l)))
-          one_more b = let e : (looked_in h + n + 1) - looked_in h ≡ n + 1 = omega arith in subst (λ k. Mem d (take k (drop (looked_in h) (live_chains s g l)))) e b
+          one_more : Contains (take ((looked_in h + n + 1) - looked_in h) (drop (looked_in h) (live_chains s g l))) d → Contains (take (n + 1) (drop (looked_in h) (live_chains s g l))) d
+          one_more b = let e : (looked_in h + n + 1) - looked_in h ≡ n + 1 = omega arith in subst (λ k. Contains (take k (drop (looked_in h) (live_chains s g l))) d) e b
 
       pub found_lawful : Lawful s g h (moment (found c) (looked_in h + n + 1))
       found_lawful = record {
         best_unseen = λ l' c' el' ee. subst (λ z. Best l' z) (that c' ee) (subst (λ z. Best z c) (this l' el') ((live_chain c c_live, first.passes), c_new, best));
         never_above_grant = in_grant;
         never_past_end = λ l' el'. subst (λ z. looked_in h + n + 1 ≤ length (live_chains s g z)) (this l' el') in_all;
-        first_looked_handed = λ l' el' d. subst (λ z. Mem d (c ∷ handed_in h) ↔ (Mem d (take (looked_in h + n + 1) (live_chains s g z)) × (admitted g z d ≡ true))) (this l' el') (found_handed d);
-        found_exactly_when = λ l' el' k. (λ f. subst (λ z. UnseenWithin s g h z (granted_in h)) (this l' el') (c, mem_more c (looked_in h + n + 1) (granted_in h) (live_chains s g l) in_grant c_within, first.passes, c_new), λ q. tt);
+        first_looked_handed = λ l' el' d. subst (λ z. Contains (c ∷ handed_in h) d ↔ (Contains (take (looked_in h + n + 1) (live_chains s g z)) d × (admitted g z d ≡ true))) (this l' el') (found_handed d);
+        found_exactly_when = λ l' el' k. (λ f. subst (λ z. UnseenWithin s g h z (granted_in h)) (this l' el') (c, looked_more c (looked_in h + n + 1) (granted_in h) (live_chains s g l) in_grant c_within, first.passes, c_new), λ q. tt);
         exhausted_exactly_when = λ l' el' k f. absurd (f tt);
         spent_exactly_when = λ l' el' k f. absurd (f tt);
         stops_there = λ l' c' el' ee. subst (λ z. Stop l' z) (that c' ee) (subst (λ z. Stop z c) (this l' el') (looked_in h + n, omega arith, refl, stands));
@@ -245,7 +242,7 @@ module _ (s : Meaning) (laws : Laws s) (g : Sets) (lawful : grammars.Lawful g) (
           that c' q = cc
 
           Best : Cells → Chain → Type 0
-          Best l c = Admissible g l c × (Mem c (handed_in h) → ⊥) × ((d : Chain) → Admissible g l d → (Mem d (handed_in h) → ⊥) → (d ≡ c) ⊎ (before s l c d ≡ true))
+          Best l c = Admissible g l c × (Contains (handed_in h) c → ⊥) × ((d : Chain) → Admissible g l d → (Contains (handed_in h) d → ⊥) → (d ≡ c) ⊎ (before s l c d ≡ true))
 
           Stop : Cells → Chain → Type 0
           Stop l' c = (j : ℕ) × (looked_in h ≤ j) × (looked_in h + n + 1 ≡ j + 1) × (drop j (live_chains s g l') ≡ c ∷ drop (j + 1) (live_chains s g l'))

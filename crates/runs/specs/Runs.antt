@@ -1,9 +1,8 @@
 -- Runs: what came of any list of calls on a new reader, and the law of each. Assumes nothing.
-use Rattle.std.specs.Prelude.{◌≡◌, ℕ, ◌+◌, ◌<◌, ◌≤◌, true, ◌⊎◌, ◌↔◌, List, [], ◌∷◌, ◌++◌, length, take, drop, Some, None, Ok, Err, Option, Result}
+use Rattle.std.specs.Prelude.{◌≡◌, ℕ, ◌+◌, ◌<◌, ◌≤◌, true, ◌⊎◌, ◌↔◌, Contains, List, [], ◌∷◌, ◌++◌, length, take, drop, Some, None, Ok, Err, Option, Result}
 use Rattle.pages.specs.Shape.{Cells}
 use Rattle.scores.specs.Scores.{Meaning}
 use Rattle.grammars.specs.Grammars.{Sets}
-use Rattle.search.specs.Members.{Mem}
 use Rattle.search.specs.Chains.{Chain, ChainOf, text, before, ranking}
 use Rattle.reader.specs.declared.calls.Outcome.TheVariants.{Found, Spent, Exhausted}
 use Rattle.reader.specs.declared.calls.Report.{Report}
@@ -96,19 +95,19 @@ Admissible g l c = ChainOf l c × (admitted g l c ≡ true)
 
 -- among the first k live chains there is an admissible one that has not been handed out
 abbrev pub UnseenWithin : Meaning → Sets → List Moment → Cells → ℕ → Type 0
-UnseenWithin s g h l k = (c : Chain) × Mem c (take k (live_chains s g l)) × (admitted g l c ≡ true) × (Mem c (handed_in h) → ⊥)
+UnseenWithin s g h l k = (c : Chain) × Contains (take k (live_chains s g l)) c × (admitted g l c ≡ true) × (Contains (handed_in h) c → ⊥)
 
 -- THE LAW of a moment x after the history h.
 pub record Lawful (s : Meaning) (g : Sets) (h : List Moment) (x : Moment) : Type 0 where
   -- a reading handed out was admissible, was new since its line was loaded, and stood before every other reading then admissible and not yet handed out
   pub best_unseen : (l : Cells) (c : Chain) → line_in h ≡ Some l → x.event ≡ found c
-      → Admissible g l c × (Mem c (handed_in h) → ⊥) × ((d : Chain) → Admissible g l d → (Mem d (handed_in h) → ⊥) → (d ≡ c) ⊎ (before s l c d ≡ true))
+      → Admissible g l c × (Contains (handed_in h) c → ⊥) × ((d : Chain) → Admissible g l d → (Contains (handed_in h) d → ⊥) → (d ≡ c) ⊎ (before s l c d ≡ true))
   -- the number looked at never passes the grant, nor the number of live chains
   pub never_above_grant : x.looked ≤ granted_in (x ∷ h)
   pub never_past_end : (l : Cells) → line_in (x ∷ h) ≡ Some l → x.looked ≤ length (live_chains s g l)
   -- exactly the admissible ones among the first live chains, as many as have been looked at, have been handed out
   pub first_looked_handed : (l : Cells) → line_in (x ∷ h) ≡ Some l → (c : Chain)
-      → Mem c (handed_in (x ∷ h)) ↔ (Mem c (take x.looked (live_chains s g l)) × (admitted g l c ≡ true))
+      → Contains (handed_in (x ∷ h)) c ↔ (Contains (take x.looked (live_chains s g l)) c × (admitted g l c ≡ true))
   -- a next finds one exactly when the first live chains, as many as are granted, hold an admissible one not yet handed out
   pub found_exactly_when : (l : Cells) → line_in h ≡ Some l → IsNext x.event → IsFound x.event ↔ UnseenWithin s g h l (granted_in h)
   -- otherwise it says exhausted exactly when no live chain is left, and spent exactly when one is left and the grant is used up

@@ -1,9 +1,8 @@
 -- How the steps of a run are argued: a history, and what is seen of the reader. Assumes nothing.
-use Rattle.std.specs.Prelude.{◌≡◌, ℕ, ◌≤◌, true, ◌↔◌, List, ◌∷◌, length, take, Some, Result}
+use Rattle.std.specs.Prelude.{◌≡◌, ℕ, ◌≤◌, true, ◌↔◌, Contains, List, ◌∷◌, length, take, Some, Result}
 use Rattle.pages.specs.Shape.{Cells}
 use Rattle.scores.specs.Scores.{Meaning}
 use Rattle.grammars.specs.Grammars.{Sets}
-use Rattle.search.specs.Members.{Mem}
 use Rattle.search.specs.Chains.{Chain}
 use Rattle.bench.specs.Searched.{admitted}
 use Rattle.reader.specs.declared.refusals.Refusal.{Refusal}
@@ -20,7 +19,7 @@ pub record Tracks (s : Meaning) (g : Sets) (h : List Moment) (v : View) : Type 0
   pub handed_is : length (handed_in h) ≡ v.handed
   pub within : looked_in h ≤ granted_in h
   pub reached : (l : Cells) → line_in h ≡ Some l → looked_in h ≤ length (live_chains s g l)
-  pub seen : (l : Cells) → line_in h ≡ Some l → (c : Chain) → Mem c (handed_in h) ↔ (Mem c (take (looked_in h) (live_chains s g l)) × (admitted g l c ≡ true))
+  pub seen : (l : Cells) → line_in h ≡ Some l → (c : Chain) → Contains (handed_in h) c ↔ (Contains (take (looked_in h) (live_chains s g l)) c × (admitted g l c ≡ true))
 
 -- after any history that agrees with the view, the call makes a lawful moment, and the history with it agrees again
 abbrev pub Made : Meaning → Sets → List ℕ → View → List ℕ → Call → Result Answer Refusal → View → List ℕ → Type 0

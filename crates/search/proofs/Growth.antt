@@ -1,18 +1,19 @@
 -- How the live chains grow from one another. Assumes nothing.
-use Rattle.std.proofs.Common.{◌≡◌, ℕ, zero, suc, ◌+◌, ◌-◌, ◌<◌, ◌≤◌, Bool, true, false, cond, ltb, List, [], ◌∷◌, ◌++◌, length, get_or, take, set, replicate, sym, refl, ap, ◌∙◌, subst, inl, inr, ⊎_elim, append-nil, arith, length-append, length-set, Some, None, Option}
+use Rattle.std.proofs.Common.{◌≡◌, ℕ, zero, suc, ◌+◌, ◌-◌, ◌<◌, ◌≤◌, Bool, true, false, cond, ltb, Contains, List, [], ◌∷◌, ◌++◌, length, get_or, take, set, replicate, sym, refl, ap, ◌∙◌, subst, inr, ⊎_elim, append-nil, arith, length-append, length-set, Some, None, Option}
 use Rattle.std.proofs.lemmas.Option.{same_Some, none-some}
 use lib.ListN.{length-replicate, get_or-replicate}
 use Rattle.std.proofs.lemmas.List.{get_or-set_same, get_or-set_other, set-set, set-get_or, take-take, get_or_past}
 use Rattle.std.proofs.ByRecursion.{All-get_or}
 use Rattle.std.proofs.lemmas.Bool.{both_ways, cases_lt, cases_Bool, and_parts, and_from, and_right, and_left, leb-true, le-leb, ltb-true, lt-ltb, false≢true}
-use Rattle.search.specs.Members.{Mem, Distinct}
+use Rattle.search.specs.Members.{Distinct}
 use Rattle.scores.specs.Scores.{Meaning, Laws}
 use Rattle.grammars.specs.Grammars.{Texts}
 use Rattle.pages.specs.Shape.{Cells}
 use Rattle.search.specs.Chains.{Chain, ChainOf, text, before, last_raised, opens, live, lowered_at, lowered, root, raised, or_zero, may_raise, children_below, children, ranking}
 use Rattle.search.specs.Theorems.{Ranked, LiveChainsGrow, ChildrenAreFew, BestFirstOfChains, FrontierIsSmall}
 use Rattle.pages.proofs.Shape.{line_parts}
-use Rattle.search.proofs.Members.{mem_left, mem_right, mem_append, distinct_append}
+use Rattle.std.proofs.lemmas.List.Elements.{Contains-append_left, Contains-append_right, Contains-append_cases}
+use Rattle.search.proofs.Members.{Contains-first, no_member, distinct_append}
 use Rattle.search.proofs.Order.{before_from, before_self, before_trans}
 use Rattle.search.proofs.Ranking.{ranked}
 use Rattle.search.proofs.Raised.{Sound, sound, Last, last_of, flat_of, is_last, is_flat, chain_set, text_set, lower_set, set_no_worse}
@@ -114,30 +115,30 @@ record Child (allows : Texts) (line : Cells) (c d : Chain) (n i : ℕ) : Type 0 
   is : d ≡ raised c i
 
 module _ (allows : Texts) (line : Cells) (c : Chain) where
-  child_from : (n : ℕ) (d : Chain) → Mem d (children_below allows line c n) → (i : ℕ) × Child allows line c d n i
-  child_from zero d h = absurd h
+  child_from : (n : ℕ) (d : Chain) → Contains (children_below allows line c n) d → (i : ℕ) × Child allows line c d n i
+  child_from zero d h = absurd (no_member d h)
   child_from (suc n) d h = ⊎_elim (λ a. earlier (child_from n d a)) (λ b. here (may_raise allows line c n) refl b)
-      (mem_append d (children_below allows line c n) (cond (may_raise allows line c n) (raised c n ∷ []) []) h)
+      (Contains-append_cases (children_below allows line c n) (cond (may_raise allows line c n) (raised c n ∷ []) []) d h)
     where
       earlier : (i : ℕ) × Child allows line c d n i → (i : ℕ) × Child allows line c d (suc n) i
       earlier r = let l = r.1.below in (r.0, record { below = omega arith; may = r.1.may; is = r.1.is })
 
-      here : (b : Bool) → may_raise allows line c n ≡ b → Mem d (cond b (raised c n ∷ []) []) → (i : ℕ) × Child allows line c d (suc n) i
-      here true e (inl q) = (n, record { below = omega arith; may = e; is = q })
-      here true e (inr m) = absurd m
-      here false e m = absurd m
+      here : (b : Bool) → may_raise allows line c n ≡ b → Contains (cond b (raised c n ∷ []) []) d → (i : ℕ) × Child allows line c d (suc n) i
+      here true e (zero, l, q) = (n, record { below = omega arith; may = e; is = sym q })
+      here true e (suc k, l, q) = absurd (omega arith)
+      here false e (k, l, q) = absurd (omega arith)
 
-  child_to : (n : ℕ) (d : Chain) (i : ℕ) → Child allows line c d n i → Mem d (children_below allows line c n)
+  child_to : (n : ℕ) (d : Chain) (i : ℕ) → Child allows line c d n i → Contains (children_below allows line c n) d
   child_to zero d i h = let l = h.below in absurd (omega arith)
   child_to (suc n) d i h = ⊎_elim
-      (λ l. mem_left d (children_below allows line c n) (cond (may_raise allows line c n) (raised c n ∷ []) []) (child_to n d i (record { below = l; may = h.may; is = h.is })))
+      (λ l. Contains-append_left (children_below allows line c n) (cond (may_raise allows line c n) (raised c n ∷ []) []) d (child_to n d i (record { below = l; may = h.may; is = h.is })))
       (λ (l : n ≤ i). let k = h.below in let e : i ≡ n = omega arith in
-      mem_right d (children_below allows line c n) (cond (may_raise allows line c n) (raised c n ∷ []) [])
+      Contains-append_right (children_below allows line c n) (cond (may_raise allows line c n) (raised c n ∷ []) []) d
       (here e (may_raise allows line c n) (ap (may_raise allows line c) (sym e) ∙ h.may)))
       (cases_lt i n)
     where
-      here : i ≡ n → (b : Bool) → b ≡ true → Mem d (cond b (raised c n ∷ []) [])
-      here e true q = inl (h.is ∙ ap (raised c) e)
+      here : i ≡ n → (b : Bool) → b ≡ true → Contains (cond b (raised c n ∷ []) []) d
+      here e true q = rw (h.is ∙ ap (raised c) e) (Contains-first (raised c n) [])
       here e false q = absurd (false≢true q)
 
   raised_here : (i : ℕ) → i < length c → get_or (raised c i) i 0 ≡ get_or c i 0 + 1
@@ -149,19 +150,19 @@ module _ (allows : Texts) (line : Cells) (c : Chain) where
       (children_once n (omega arith)) (one (may_raise allows line c n)) (λ d a b. apart d (may_raise allows line c n) (child_from n d a) b)
     where
       one : (b : Bool) → Distinct (cond b (raised c n ∷ []) [])
-      one true = (λ m. m, tt)
+      one true = (no_member (raised c n), tt)
       one false = tt
 
-      apart : (d : Chain) (b : Bool) → (i : ℕ) × Child allows line c d n i → Mem d (cond b (raised c n ∷ []) []) → ⊥
-      apart d true r (inl q) =
+      apart : (d : Chain) (b : Bool) → (i : ℕ) × Child allows line c d n i → Contains (cond b (raised c n ∷ []) []) d → ⊥
+      apart d true r (zero, w, q) =
           let i = r.0 in
           let below = r.1.below in
           let at_i : get_or d i 0 ≡ get_or c i 0 + 1 = ap (λ z. get_or z i 0) r.1.is ∙ raised_here i (omega arith) in
           let other : i ≡ n → ⊥ = omega arith in
-          let kept : get_or d i 0 ≡ get_or c i 0 = ap (λ z. get_or z i 0) q ∙ get_or-set_other c n i (get_or c n 0 + 1) 0 other in
+          let kept : get_or d i 0 ≡ get_or c i 0 = ap (λ z. get_or z i 0) (sym q) ∙ get_or-set_other c n i (get_or c n 0 + 1) 0 other in
           omega arith
-      apart d true r (inr m) = m
-      apart d false r m = m
+      apart d true r (suc k, w, q) = omega arith
+      apart d false r (k, w, q) = omega arith
 
   pub children_few : (n : ℕ) → length (children_below allows line c n) ≤ n
   children_few zero = omega arith

@@ -1,15 +1,15 @@
 -- What is proved of the chains of a line. Assumes nothing.
-use Rattle.std.specs.Prelude.{◌≡◌, ℕ, ◌+◌, ◌-◌, ◌*◌, ◌≤◌, true, false, ◌⊎◌, ◌↔◌, List, length, take}
+use Rattle.std.specs.Prelude.{◌≡◌, ℕ, ◌+◌, ◌-◌, ◌*◌, ◌≤◌, true, false, ◌⊎◌, ◌↔◌, Contains, List, length, take}
 use Rattle.pages.specs.Shape.{Cells, well_formed_line}
 use Rattle.scores.specs.Scores.{Meaning, Laws}
 use Rattle.grammars.specs.Grammars.{Sets, Lawful}
-use Rattle.search.specs.Members.{Mem, Distinct, Ascending}
+use Rattle.search.specs.Members.{Distinct, Ascending}
 use Rattle.search.specs.BestFirst.{Growth, Frontier, BestFirst}
 use Rattle.search.specs.Chains.{Chain, ChainOf, chains, text, before, live, lowered, root, children_below, children, ranking}
 
 -- every chain of the line is listed, and once
 abbrev pub ChainsListed : Type 0
-ChainsListed = (line : Cells) → Distinct (chains line) × ((c : Chain) → Mem c (chains line) ↔ ChainOf line c)
+ChainsListed = (line : Cells) → Distinct (chains line) × ((c : Chain) → Contains (chains line) c ↔ ChainOf line c)
 
 -- no symbol comes twice in a cell, so a chain and its text determine each other
 abbrev pub TextTellsChain : Type 0
@@ -29,7 +29,7 @@ StrictTotalOrder = (s : Meaning) → Laws s → (line : Cells) → Order s line
 -- the ranking holds exactly the live chains of the line, each before all that come later
 pub record Ranked (s : Meaning) (g : Sets) (line : Cells) : Type 0 where
   pub in_order : Ascending (before s line) (ranking s g.allows line)
-  pub exactly_live : (c : Chain) → Mem c (ranking s g.allows line) ↔ (ChainOf line c × (live g.allows line c ≡ true))
+  pub exactly_live : (c : Chain) → Contains (ranking s g.allows line) c ↔ (ChainOf line c × (live g.allows line c ≡ true))
 
 abbrev pub RankingOfLiveChains : Type 0
 RankingOfLiveChains = (s : Meaning) → Laws s → (g : Sets) (line : Cells) → Ranked s g line

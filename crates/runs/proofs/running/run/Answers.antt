@@ -1,8 +1,7 @@
 use Rattle.std.proofs.Common.{sym, refl, subst, arith}
 use Rattle.reader.specs.Views.{Agrees}
-use Rattle.runs.specs.Runs.{Runs}
 use Rattle.runs.proofs.Determined.{determined}
-use Rattle.runs.proofs.Onward.{running_none, running_more, running_all}
+use Rattle.runs.proofs.Onward.{running_none, running_more}
 use Rattle.runs.proofs.running.run.Goals as goal
 
 pub loop-row-init : goal.loop-row-init
@@ -14,11 +13,6 @@ pub loop-row-preserved : goal.loop-row-preserved
 loop-row-preserved g c =
     let told = c.answer_call.ensures in
     running_more c.loop-row.invariant _ (omega (arith, c.loop-row-test.true, c.loop-row.auto.rows)) c.loop-row.auto.rows told.agrees told.kept.grammar told.made
-
-pub returns-clause-law : goal.returns-clause-law
-returns-clause-law g c =
-    subst (λ x. Runs g.S.Score.meaning (g.G.Grammar.meaning x) c.args.pages.now c.args.places.now c.args.rows.now c.loop-row.rows c.loop-row.places) c.in_ok-reader.ensures.0
-    (running_all c.loop-row.invariant (omega (arith, c.loop-row-test.false, c.loop-row.auto.rows)) c.loop-row.auto.rows)
 
 pub returns-clause-determined : goal.returns-clause-determined
 returns-clause-determined g c = determined _ g.met.S.Score.laws _ _ _ _
