@@ -1,6 +1,6 @@
 // Pages at the bounds of the format are accepted, and give the lines that they hold.
 use crate::pages_made::{EvenPage, line_in};
-use pages::line_of_page;
+use pages::{Alternative, line_of_page};
 use std::alloc::Global;
 use std::process::Abort;
 use std::test::Fail;
@@ -16,9 +16,7 @@ fn check_even(rt: &impl Abort, heap: Global, page: EvenPage) -> Result<(), Fail>
             assert_eq!(rt; cell.alternatives().len(), usize::from(page.alternatives));
         }
     }
-    let found = line_of_page(bytes.as_slice(), usize::from(page.lines)).map_err(|_| Fail::new(
-        "the page was refused",
-    ))?;
+    let found = line_of_page(bytes.as_slice(), usize::from(page.lines))?;
     assert!(rt; found.is_none(), "there is a line behind the last");
     Ok(())
 }
@@ -51,8 +49,7 @@ fn check_alternative(
         .alternatives()
         .get(rank)
         .ok_or("there is no such alternative")?;
-    assert_eq!(rt; alternative.symbol, symbol);
-    assert_eq!(rt; alternative.penalty, penalty);
+    assert_eq!(rt; *alternative, Alternative { symbol, penalty });
     Ok(())
 }
 

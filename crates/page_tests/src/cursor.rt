@@ -1,6 +1,6 @@
-// A page's lines one after another, and a line read where it stands.
+// A page's lines one after another, and a line read where it stands. A refusal is held to its number, of docs/page-file.md.
 use crate::pages_made::DATE_PAGE;
-use pages::{PageLines, read_alternative, read_line_at};
+use pages::{Alternative, PageLines, Returned, read_alternative, read_line_at};
 use std::process::Abort;
 use std::test::Fail;
 
@@ -10,9 +10,7 @@ fn check_next(
     lines: &mut PageLines<'_>,
     cells: Option<usize>,
 ) -> Result<(), Fail> {
-    let found = lines
-        .next_line()
-        .map_err(|_| Fail::new("the page was refused"))?;
+    let found = lines.next_line()?;
     assert_eq!(rt; found.map(|line| line.cells().len()), cells);
     Ok(())
 }
@@ -21,7 +19,7 @@ fn check_next(
 #[test]
 fn one_after_another(rt: HostRuntime) -> Result<(), Fail> {
     let page = [2, 1, 1, 65, 0, 0, 2, 1, 66, 0, 0, 1, 67, 0, 0];
-    let mut lines = PageLines::open(&page).map_err(|_| Fail::new("the page was refused"))?;
+    let mut lines = PageLines::open(&page)?;
     check_next(&rt, &mut lines, Some(1))?;
     check_next(&rt, &mut lines, Some(2))?;
     check_next(&rt, &mut lines, None)?;
@@ -32,7 +30,7 @@ fn one_after_another(rt: HostRuntime) -> Result<(), Fail> {
 #[test]
 fn a_bad_line(rt: HostRuntime) -> Result<(), Fail> {
     let page = [2, 1, 1, 65, 0, 0, 1, 0];
-    let mut lines = PageLines::open(&page).map_err(|_| Fail::new("the page was refused"))?;
+    let mut lines = PageLines::open(&page)?;
     check_next(&rt, &mut lines, Some(1))?;
     for _ in 0..2 {
         let Err(fault) = lines.next_line() else {
@@ -50,16 +48,14 @@ fn a_bad_line(rt: HostRuntime) -> Result<(), Fail> {
 #[test]
 fn lines_in_turn(rt: HostRuntime) -> Result<(), Fail> {
     let page = [2, 1, 1, 65, 0, 0, 2, 1, 66, 0, 0, 1, 67, 0, 0];
-    let lines = PageLines::open(&page).map_err(|_| Fail::new("the page was refused"))?;
-    let mut lines = lines.into_iter();
+    let mut lines = PageLines::open(&page)?.into_iter();
     for cells in [1, 2] {
         let line = lines.next().ok_or("there is no line")?;
         assert_eq!(rt; line.ok().map(|l| l.cells().len()), Some(cells));
     }
     assert!(rt; lines.next().is_none());
     let page = [2, 1, 1, 65, 0, 0, 1, 0];
-    let lines = PageLines::open(&page).map_err(|_| Fail::new("the page was refused"))?;
-    let mut lines = lines.into_iter();
+    let mut lines = PageLines::open(&page)?.into_iter();
     assert!(rt; lines.next().is_some_and(|line| line.is_ok()));
     assert!(rt; lines.next().is_some_and(|line| line.is_err()));
     assert!(rt; lines.next().is_none());
@@ -70,15 +66,19 @@ fn lines_in_turn(rt: HostRuntime) -> Result<(), Fail> {
 // The line of the page stands at 1, and behind it, at 43, is nothing.
 #[test]
 fn a_line_where_it_stands(rt: HostRuntime) -> Result<(), Fail> {
-    let (line, next) = read_line_at(DATE_PAGE, 1).map_err(|_| Fail::new("the line was refused"))?;
+    let (line, next) = read_line_at(DATE_PAGE, 1)?;
     assert_eq!(rt; line.cells().len(), 8);
     assert_eq!(rt; next, 43);
     let Err(fault) = read_line_at(DATE_PAGE, 43) else {
         return Err(Fail::new("a line was read"));
     };
-    let returned = fault.returned();
-    assert_eq!(rt; returned.number, 1);
-    assert_eq!(rt; returned.place, 43);
+    assert_eq!(rt;
+        fault.returned(),
+        Returned {
+            number: 1,
+            place: 43
+        }
+    );
     assert_eq!(rt; fault.cell(), None);
     Ok(())
 }
@@ -86,9 +86,14 @@ fn a_line_where_it_stands(rt: HostRuntime) -> Result<(), Fail> {
 // The first alternative of the page stands at 3, the second at 6.
 #[test]
 fn an_alternative_where_it_stands(rt: HostRuntime) -> Result<(), Fail> {
-    let first = read_alternative(DATE_PAGE, 3, &[]).map_err(|_| Fail::new("refused"))?;
-    assert_eq!(rt; first.symbol, b'3');
-    assert_eq!(rt; first.penalty, 0);
+    let first = read_alternative(DATE_PAGE, 3, &[])?;
+    assert_eq!(rt;
+        first,
+        Alternative {
+            symbol: b'3',
+            penalty: 0
+        }
+    );
     let Err(fault) = read_alternative(DATE_PAGE, 3, &[first]) else {
         return Err(Fail::new("a symbol came twice"));
     };

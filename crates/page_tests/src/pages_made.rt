@@ -42,7 +42,7 @@ impl EvenPage {
     }
 }
 
-// The page with another byte at a place.
+// The page with another byte at a place. The heap is handed to whatever makes a page.
 pub(crate) fn altered(
     heap: Global,
     page: &[u8],
@@ -65,6 +65,6 @@ pub(crate) fn longer(heap: Global, page: &[u8], byte: u8) -> Result<Vec<u8>, All
 
 // The line of a number, which the page has.
 pub(crate) fn line_in(page: &[u8], number: usize) -> Result<Line, Fail> {
-    let found = line_of_page(page, number).map_err(|_| Fail::new("the page was refused"))?;
+    let found = line_of_page(page, number)?;
     found.ok_or_else(|| Fail::new("the page has no such line"))
 }

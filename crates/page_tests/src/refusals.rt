@@ -1,10 +1,11 @@
-// Every refusal at its first and last possible place, and which of two faults is named.
+// Every refusal at its first and last possible place, and which of two faults is named. A refusal is held to its number.
 use crate::pages_made::{DATE_PAGE, EvenPage, altered, longer};
 use pages::line_of_page;
 use std::process::Abort;
 use std::test::Fail;
 
-// A page that is refused with this number, which is what is tested (docs/page-file.md has them), at this place, in this line and cell.
+// A page that is refused with this number, which is what is tested (docs/page-file.md has them), at this place, in this
+// line and cell.
 #[derive(Clone, Copy)]
 struct Case<'a> {
     page: &'a [u8],

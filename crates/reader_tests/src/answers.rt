@@ -1,10 +1,11 @@
-// Rows for the tests, and what their answers are held to.
+// Rows for the tests, and what their answers are held to. `rt` is handed to whatever asserts.
 use reader::Outcome;
 use runs::{Answer, Call, Part, Row};
 use std::process::Abort;
 use std::test::Fail;
 
-// The page that the tests of other crates have too, as no crate of tests stands on another. One line of eight cells: 3 at 0 or 2 at 5; 0 at 0 or 8 at 2; then 0, 2, 2, 0 and 2 at 0; 3 at 0 or 4 at 1.
+// The page that the tests of other crates have too, as no crate of tests stands on another. One line of eight cells:
+// 3 at 0 or 2 at 5; 0 at 0 or 8 at 2; then 0, 2, 2, 0 and 2 at 0; 3 at 0 or 4 at 1.
 pub(crate) const DATE_PAGE: &[u8; 43] =
     b"\x01\x08\x023\0\02\0\x05\x020\0\08\0\x02\x010\0\0\x012\0\0\x012\0\0\x010\0\0\x012\0\0\x023\0\04\0\x01";
 
@@ -45,13 +46,11 @@ pub(crate) fn report() -> Row {
 
 // The call was refused with this number, which is what is tested; docs/reader.md has them.
 pub(crate) fn refused(rt: &impl Abort, row: &Row, number: u8) -> Result<(), Fail> {
-    match row.answer {
-        Some(Err(refusal)) => {
-            assert_eq!(rt; refusal.number(), number);
-            Ok(())
-        }
-        _ => Err(Fail::new("the call was not refused")),
-    }
+    let Some(Err(refusal)) = row.answer else {
+        return Err(Fail::new("the call was not refused"));
+    };
+    assert_eq!(rt; refusal.number(), number);
+    Ok(())
 }
 
 // The call was taken, and answered this.
@@ -74,14 +73,12 @@ pub(crate) fn reported(
     looked: usize,
     handed: usize,
 ) -> Result<(), Fail> {
-    match row.answer {
-        Some(Ok(Answer::Reported(report))) => {
-            assert_eq!(rt; report.cells, cells, "cells");
-            assert_eq!(rt; report.granted, granted, "granted");
-            assert_eq!(rt; report.looked, looked, "looked");
-            assert_eq!(rt; report.handed, handed, "handed");
-            Ok(())
-        }
-        _ => Err(Fail::new("nothing was reported")),
-    }
+    let Some(Ok(Answer::Reported(report))) = row.answer else {
+        return Err(Fail::new("nothing was reported"));
+    };
+    assert_eq!(rt; report.cells, cells, "cells");
+    assert_eq!(rt; report.granted, granted, "granted");
+    assert_eq!(rt; report.looked, looked, "looked");
+    assert_eq!(rt; report.handed, handed, "handed");
+    Ok(())
 }

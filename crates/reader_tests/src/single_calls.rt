@@ -5,11 +5,6 @@ use reader::{Reader, Refusal};
 use scores::Sum;
 use std::test::Fail;
 
-// An answer, with the number of its refusal.
-fn numbered<T: Drop>(answer: Result<T, Refusal>) -> Result<T, u8> {
-    answer.map_err(|refusal| refusal.number())
-}
-
 // The totals of the four dates are 5, 6, 7 and 8; a load forgets the last.
 #[test]
 fn last_totals(rt: HostRuntime) -> Result<(), Fail> {
@@ -35,12 +30,12 @@ fn last_totals(rt: HostRuntime) -> Result<(), Fail> {
 fn lines_written(rt: HostRuntime) -> Result<(), Fail> {
     let mut reader = Reader::new(rt.alloc(), Date, Sum)?;
     let mut place = [9; 43];
-    assert_eq!(rt; numbered(reader.write_line(&mut place)), Err(8));
+    assert_eq!(rt; reader.write_line(&mut place), Err(Refusal::NoLine));
     assert_eq!(rt; reader.load(DATE_PAGE, 0), Ok(()));
     let mut short = [9; 41];
-    assert_eq!(rt; numbered(reader.write_line(&mut short)), Err(10));
+    assert_eq!(rt; reader.write_line(&mut short), Err(Refusal::Place));
     assert_eq!(rt; short[0], 9, "nothing is written");
-    assert_eq!(rt; numbered(reader.write_line(&mut place)), Ok(42));
+    assert_eq!(rt; reader.write_line(&mut place), Ok(42));
     let page: &[u8] = DATE_PAGE;
     assert!(rt; place.starts_with(&page[1..]), "bytes");
     assert_eq!(rt; place[42], 9, "the rest is left");

@@ -1,4 +1,4 @@
-// What a grammar is held to over a table of texts.
+// What a grammar is held to over a table of texts. `rt` is handed to whatever asserts.
 use grammars::Grammar;
 use std::process::Abort;
 

@@ -13,11 +13,8 @@ fn pairs_of_texts(rt: HostRuntime) {
     ];
     for (text, pair) in cases {
         let mut place = [b'.'; 20];
-        assert_eq!(rt; read_position(text).map_err(Refusal::number), Ok(pair));
-        assert_eq!(rt;
-            write_position(pair, &mut place).map_err(Refusal::number),
-            Ok(17)
-        );
+        assert_eq!(rt; read_position(text), Ok(pair));
+        assert_eq!(rt; write_position(pair, &mut place), Ok(17));
         assert_eq!(rt; &place[0..17], text.as_slice());
         assert_eq!(rt; &place[17..20], b"...".as_slice());
     }
@@ -38,7 +35,7 @@ fn no_positions(rt: HostRuntime) {
         b"5060000N00412345W",
     ];
     for text in others {
-        assert_eq!(rt; read_position(text).map_err(Refusal::number), Err(11));
+        assert_eq!(rt; read_position(text), Err(Refusal::Position));
     }
 }
 
@@ -46,27 +43,31 @@ fn no_positions(rt: HostRuntime) {
 fn places_and_refusals(rt: HostRuntime) {
     let mut place = [b'.'; 16];
     let cases = [
-        ((3_012_345, -252_345), 10),
-        ((5_400_001, 0), 11),
-        ((-5_400_001, 0), 11),
-        ((0, 10_800_001), 11),
-        ((0, -10_800_000), 11),
+        ((3_012_345, -252_345), Refusal::Place),
+        ((5_400_001, 0), Refusal::Position),
+        ((-5_400_001, 0), Refusal::Position),
+        ((0, 10_800_001), Refusal::Position),
+        ((0, -10_800_000), Refusal::Position),
     ];
-    for (pair, number) in cases {
-        assert_eq!(rt;
-            write_position(pair, &mut place).map_err(Refusal::number),
-            Err(number)
-        );
+    for (pair, refusal) in cases {
+        assert_eq!(rt; write_position(pair, &mut place), Err(refusal));
     }
     assert_eq!(rt; &place, b"................");
     let mut long = [b'.'; 18];
     let refused = write_position((0, 10_800_001), &mut long);
-    assert_eq!(rt; refused.map_err(Refusal::number), Err(11));
+    assert_eq!(rt; refused, Err(Refusal::Position));
     assert_eq!(rt; &long, b"..................");
     let mut exact = [b'.'; 17];
     let written = write_position((3_012_345, -252_345), &mut exact);
-    assert_eq!(rt; written.map_err(Refusal::number), Ok(17));
+    assert_eq!(rt; written, Ok(17));
     assert_eq!(rt; &exact, b"5012345N00412345W");
+}
+
+// The numbers that are returned, as docs/positions.md has them.
+#[test]
+fn numbers(rt: HostRuntime) {
+    assert_eq!(rt; Refusal::Place.number(), 10);
+    assert_eq!(rt; Refusal::Position.number(), 11);
 }
 
 #[test]

@@ -7,9 +7,7 @@ use std::test::Fail;
 fn a_plotted_mark(rt: HostRuntime) -> Result<(), Fail> {
     let mut short = [7; 7];
     let mut place = [7; 9];
-    let mark = propose(b"5012345N00412345W")
-        .map_err(Refusal::number)?
-        .confirm();
+    let mark = propose(b"5012345N00412345W")?.confirm();
     let Err((refusal, mark)) = mark.plot(&mut short) else {
         return Err(Fail::new("plotted"));
     };
@@ -18,7 +16,7 @@ fn a_plotted_mark(rt: HostRuntime) -> Result<(), Fail> {
         Ok(count) => count,
         Err((_, _mark)) => unreachable(),
     };
-    assert_eq!(rt; refusal.number(), 10);
+    assert_eq!(rt; refusal, Refusal::Place);
     assert_eq!(rt; short, [7; 7]);
     assert_eq!(rt; count, 8);
     assert_eq!(rt; place, [0x00, 0x2d, 0xf6, 0xf9, 0xff, 0xfc, 0x26, 0x47, 7]);
@@ -40,7 +38,7 @@ fn marks_at_the_ends_of_the_ranges(rt: HostRuntime) -> Result<(), Fail> {
     ];
     for (text, bytes) in cases {
         let mut place = [7; 8];
-        let proposal = propose(text).map_err(Refusal::number)?;
+        let proposal = propose(text)?;
         // A mark cannot be dropped, so one that came back would have to be named.
         let count = match proposal.confirm().plot(&mut place) {
             Ok(count) => count,
@@ -54,12 +52,11 @@ fn marks_at_the_ends_of_the_ranges(rt: HostRuntime) -> Result<(), Fail> {
 
 #[test]
 fn rejected_marks(rt: HostRuntime) {
-    let cases: [(&[u8], Result<(i32, i32), u8>); 2] = [
+    let cases: [(&[u8], Result<(i32, i32), Refusal>); 2] = [
         (b"9000000S18000000E", Ok((-5_400_000, 10_800_000))),
-        (b"5012345N18000000W", Err(11)),
+        (b"5012345N18000000W", Err(Refusal::Position)),
     ];
     for (text, pair) in cases {
-        let rejected = propose(text).map(Proposal::reject);
-        assert_eq!(rt; rejected.map_err(Refusal::number), pair);
+        assert_eq!(rt; propose(text).map(Proposal::reject), pair);
     }
 }
