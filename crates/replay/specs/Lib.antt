@@ -1,0 +1,4 @@
+pub mod Words
+pub mod Scripts
+pub mod Settings
+pub mod Plays

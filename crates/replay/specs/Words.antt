@@ -1,0 +1,69 @@
+-- The words of the program.
+use Rattle.std.specs.Prelude.{ℕ, List, [], ◌∷◌, ◌++◌, take, drop, Some, None, Ok, Err, Option, Result, codes, decimal}
+use Rattle.std.specs.Borrow.{Bor}
+use Rattle.std.specs.Str.Lossy.{utf8_lossy}
+use Rattle.reports.specs.Words.{page_words}
+use Rattle.reader.specs.Refusals.{number_of}
+use Rattle.reader.specs.declared.calls.Outcome.TheVariants.{Found, Spent, Exhausted}
+use Rattle.reader.specs.declared.refusals.Refusal.{Refusal}
+use Rattle.reader.specs.declared.refusals.Refusal.TheVariants as refusal
+use Rattle.runs.specs.declared.rows.Part.{Part}
+use Rattle.runs.specs.declared.rows.Call.{Call}
+use Rattle.runs.specs.declared.rows.Call.TheVariants as call
+use Rattle.runs.specs.declared.rows.Row.{Row}
+use Rattle.runs.specs.declared.rows.Answer.{Answer}
+use Rattle.runs.specs.declared.rows.Answer.TheVariants.{Loaded, Granted, Next, Reported}
+use Rattle.replay.specs.declared.script.CommandFault.{CommandFault}
+use Rattle.replay.specs.declared.script.CommandFault.TheVariants as fault
+
+-- what a line of a script is expected to be
+unfoldable pub command_fault_words : CommandFault → List ℕ
+command_fault_words fault.Load = codes "a load is written load FILE LINE, with LINE a whole number below 2^64"
+command_fault_words fault.Grant = codes "a grant is written grant N, with N a whole number below 2^64"
+command_fault_words fault.Next = codes "a next is written next, and nothing behind it"
+command_fault_words fault.Report = codes "a report is written report, and nothing behind it"
+command_fault_words fault.Call = codes "a call is written load FILE LINE, grant N, next or report"
+
+-- why a call was refused, of a bad page by the bytes of the page
+abbrev pub reason_words : List ℕ → Refusal → List ℕ
+reason_words page (refusal.Page f) = page_words page f
+reason_words page refusal.Score = codes "the score does not take the line"
+reason_words page refusal.NoLine = codes "no line is loaded"
+reason_words page refusal.Grant = codes "the grant is 0 or too large"
+reason_words page refusal.Place = codes "the place is too short"
+reason_words page refusal.LineNumber = codes "the page has no such line"
+
+-- what a call answered, of a reading by the first bytes of its place
+abbrev pub answer_words : List ℕ → List ℕ → Result Answer Refusal → List ℕ
+answer_words page place (Ok Loaded) = codes "loaded"
+answer_words page place (Ok Granted) = codes "granted"
+answer_words page place (Ok (Next (Found n))) = codes "found " ++ utf8_lossy (take n place)
+answer_words page place (Ok (Next Spent)) = codes "spent"
+answer_words page place (Ok (Next Exhausted)) = codes "exhausted"
+answer_words page place (Ok (Reported r)) =
+    decimal r.cells
+    ++ (codes " cells, " ++ (decimal r.granted ++ (codes " granted, " ++ (decimal r.looked ++ (codes " looked at, " ++ (decimal r.handed ++ (codes " handed out, " ++ (decimal r.places ++ codes " places in use"))))))))
+answer_words page place (Err r) = codes "refused " ++ (decimal (number_of r) ++ (codes ", " ++ reason_words page r))
+
+-- a part of lent bytes, cut off at their end
+abbrev pub lent : List ℕ → Part → List ℕ
+lent bytes p = take p.length (drop p.start bytes)
+
+-- the page of a load, and the place of a next
+abbrev pub page_of : List ℕ → Call → List ℕ
+page_of pages (call.Load p n) = lent pages p
+page_of pages c = []
+
+abbrev pub place_of : List ℕ → Call → List ℕ
+place_of places (call.Next p) = lent places p
+place_of places c = []
+
+-- the line of a call that was made: how it was written, and what it answered
+abbrev pub call_line : List ℕ → List ℕ → List ℕ → Call → Option (Result Answer Refusal) → List ℕ
+call_line pages places text c (Some a) = text ++ (codes ": " ++ (answer_words (page_of pages c) (place_of places c) a ++ codes "\n"))
+call_line pages places text c None = []
+
+-- the lines of calls, one after another: how each was written, and its row
+unfoldable pub call_lines : List ℕ → List ℕ → List (Bor (List ℕ)) → List Row → List ℕ
+call_lines pages places (text ∷ texts) (row ∷ rows) = call_line pages places text.now row.call row.answer ++ call_lines pages places texts rows
+call_lines pages places texts rows = []

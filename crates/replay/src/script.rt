@@ -1,0 +1,86 @@
+// The lines of a script: a call to a line, its words parted by blanks.
+ghost use Rattle.std.specs.Prelude.{◌≡◌, Some, map, IfOk, OnErr};
+ghost use Rattle.replay.specs.declared.script.Command.{Command};
+ghost use Rattle.replay.specs.Scripts.{IsCall};
+ghost use Rattle.replay.specs.Words.{command_fault_words};
+
+use std::alloc::Global;
+use std::error::Error;
+use std::fmt;
+
+// A call as a script has it: a page is named by its file, and a next is given its place later.
+#[derive(Clone, Copy, Debug, PartialEq, Eq)]
+pub enum Command<'a> {
+    Load { file: &'a str, number: usize },
+    Grant { chains: usize },
+    Next,
+    Report,
+}
+
+// Which call a line was to be and is not, or that it begins with the word of no call.
+#[derive(Clone, Copy, Debug, PartialEq, Eq)]
+pub enum CommandFault {
+    Load,
+    Grant,
+    Next,
+    Report,
+    Call,
+}
+
+impl CommandFault {
+    // What is expected, which says what is wrong too.
+    #[tactic(auto, unfolding(crate::specs::Words::command_fault_words))]
+    pub fn explanation(self) -> &'static str
+        ensures { result.now ≡ command_fault_words self }
+    {
+        match self {
+            CommandFault::Load =>
+                "a load is written load FILE LINE, with LINE a whole number below 2^64",
+            CommandFault::Grant => "a grant is written grant N, with N a whole number below 2^64",
+            CommandFault::Next => "a next is written next, and nothing behind it",
+            CommandFault::Report => "a report is written report, and nothing behind it",
+            CommandFault::Call => "a call is written load FILE LINE, grant N, next or report",
+        }
+    }
+}
+
+// By hand, as a derived `Display` states nothing of its words.
+impl fmt::Display for CommandFault {
+    ghost output = { λ fault. Some (command_fault_words fault) };
+
+    fn fmt<W: fmt::Write>(&self, f: &mut fmt::Formatter<W>) -> fmt::Result {
+        f.write_str(self.explanation())
+    }
+}
+
+impl Error for CommandFault {}
+
+// The call that the words are, if they are one.
+pub fn command_of<'a>(words: &[&'a str]) -> Result<Command<'a>, CommandFault>
+    ensures call { IfOk result (λ c. IsCall (map (λ w. w.now) words.now) c) }
+    ensures fault { OnErr result ((c : Command) → IsCall (map (λ w. w.now) words.now) c → ⊥) }
+{
+    match words {
+        ["load", file, number] => {
+            let number = number.parse::<usize>().map_err(|_| CommandFault::Load)?;
+            Ok(Command::Load { file, number })
+        }
+        ["grant", chains] => {
+            let chains = chains.parse::<usize>().map_err(|_| CommandFault::Grant)?;
+            Ok(Command::Grant { chains })
+        }
+        ["next"] => Ok(Command::Next),
+        ["report"] => Ok(Command::Report),
+        ["load", ..] => Err(CommandFault::Load),
+        ["grant", ..] => Err(CommandFault::Grant),
+        ["next", ..] => Err(CommandFault::Next),
+        ["report", ..] => Err(CommandFault::Report),
+        _ => Err(CommandFault::Call),
+    }
+}
+
+// The call of a line. Its words are collected first, so memory can be wanting.
+pub fn read_command(heap: Global, text: &str) -> anyhow::Result<Command<'_>> {
+    let words: Vec<&str> = text.split_whitespace().collect(heap)?;
+    Ok(command_of(words.as_slice())?)
+}
