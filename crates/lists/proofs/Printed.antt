@@ -1,22 +1,22 @@
 -- The row of a line: that it is what the next came to, and how long it is; and the rows of a page. Assumes nothing.
-use Rattle.std.proofs.Common.{◌≡◌, ℕ, zero, suc, ◌+◌, ◌*◌, ◌^◌, ◌<◌, ◌≤◌, min, Bool, true, false, cond, ltb, List, [], ◌∷◌, ◌++◌, length, get_or, take, drop, Some, None, Ok, Option, Result, codes, decimal, sym, refl, ap, ◌∙◌, append_assoc, append-nil, arith, rules, length-append}
+use Rattle.std.proofs.Common.{◌≡◌, ℕ, zero, suc, ◌+◌, ◌*◌, ◌<◌, ◌≤◌, min, Bool, true, false, cond, ltb, List, [], ◌∷◌, ◌++◌, length, get_or, take, drop, Some, None, Ok, Option, codes, decimal, sym, refl, ap, ◌∙◌, append_assoc, append-nil, arith, rules, length-append}
 use Rattle.std.specs.List.{AllByRecursion}
-use Rattle.std.proofs.lemmas.List.{length-take, take_more, length_push, take_all}
+use Rattle.std.proofs.lemmas.List.{length-take, take_more}
 use Rattle.pages.specs.Shape.{Cells, Lines}
 use Rattle.pages.proofs.Shape.{WellFormedLine, WellFormedPage}
 use Rattle.scores.specs.Scores.{Laws, stepped, sum_meaning}
 use Rattle.grammars.specs.Dates.{date_sets}
 use Rattle.search.specs.Chains.{Chain, text, penalties, total}
 use Rattle.bench.specs.Searched.{admitted, first_passing}
-use Rattle.bench.proofs.Searches.{FirstPassing, passing_first, due_at, due_chain}
+use Rattle.bench.proofs.Searches.{passing_first, due_at, due_chain}
 use Rattle.bench.proofs.Texts.{text_long, front}
 use Rattle.reader.specs.declared.calls.Outcome.{Outcome}
 use Rattle.reader.specs.declared.calls.Outcome.TheVariants.{Found, Spent, Exhausted}
-use Rattle.reader.specs.declared.refusals.Refusal.{Refusal}
 use Rattle.reader.specs.Views.{View}
 use Rattle.reader.specs.Calls.{Nexted, next_came}
+use Rattle.lists.specs.declared.rows.Row.{Row}
 use Rattle.lists.specs.Lists.{printed, live_chains, reached, without_reading, row_of, row, header, rows}
-use Rattle.lists.specs.Calls.{granted, came, reading_word, total_word, outcome_word, found_bytes, row_words}
+use Rattle.lists.specs.Calls.{granted, came, reading_word, total_word, outcome_word, row_words}
 use Rattle.lists.proofs.Words.{two_digits, three_digits, ten_digits}
 
 sum_laws : Laws sum_meaning
@@ -49,19 +49,22 @@ module _ (l : Cells) where
   abbrev came_by : List ℕ → Option (ℕ × Chain) → Nexted
   came_by place o = next_came sum_meaning l (granted l) place (length (live_chains l)) o
 
-  -- the row that is printed of what the next came to
+  -- the words of the row that is printed of what the next came to
+  abbrev words : ℕ → List ℕ → Option ℕ → ℕ → List ℕ → List ℕ
+  words number reading total looked outcome = printed (decimal number ∷ reading ∷ total_word total ∷ decimal looked ∷ outcome ∷ [])
+
   abbrev shown : ℕ → Outcome → Nexted → List ℕ
-  shown number outcome x = row_words number (reading_word outcome x.place) x.state.last_total x.state.looked (outcome_word outcome)
+  shown number outcome x = words number (reading_word outcome x.place) x.state.last_total x.state.looked (outcome_word outcome)
 
   row_by : (number : ℕ) (place : List ℕ) (o : Option (ℕ × Chain)) → ((found : ℕ × Chain) → o ≡ Some found → IsFound found)
       → (outcome : Outcome) → Ok outcome ≡ (came_by place o).answer → shown number outcome (came_by place o) ≡ row_of number l o
   row_by number place (Some found) is outcome e =
       let same : outcome ≡ Found (length l) = cc in
       let read : reading_word outcome (text l found.1 ++ drop (length l) place) ≡ text l found.1 =
-          ap (λ o. reading_word o (text l found.1 ++ drop (length l) place)) same ∙ front (text l found.1) (drop (length l) place) (length l) (is found refl).long in
+      ap (λ o. reading_word o (text l found.1 ++ drop (length l) place)) same ∙ front (text l found.1) (drop (length l) place) (length l) (is found refl).long in
       let word : outcome_word outcome ≡ codes "found" = ap outcome_word same in
       let seen : 0 + found.0 + 1 ≡ found.0 + 1 = omega arith in
-      λ i. row_words number (read i) (Some (total sum_meaning l found.1)) (seen i) (word i)
+      λ i. words number (read i) (Some (total sum_meaning l found.1)) (seen i) (word i)
   row_by number place None is outcome e =
       let same : outcome ≡ cond (ltb 170 (length (live_chains l))) Spent Exhausted = cc in
       ap (λ o. shown number o (came_by place None)) same ∙ go (ltb 170 (length (live_chains l)))
@@ -70,23 +73,23 @@ module _ (l : Cells) where
       seen = sym (length-take 170 (live_chains l))
 
       go : (more : Bool) → shown number (cond more Spent Exhausted) (came_by place None)
-          ≡ row_words number (codes "-") None (length (reached l)) (cond more (codes "spent") (codes "exhausted"))
-      go true = ap (λ k. row_words number (codes "-") None k (codes "spent")) seen
-      go false = ap (λ k. row_words number (codes "-") None k (codes "exhausted")) seen
+          ≡ words number (codes "-") None (length (reached l)) (cond more (codes "spent") (codes "exhausted"))
+      go true = ap (λ k. words number (codes "-") None k (codes "spent")) seen
+      go false = ap (λ k. words number (codes "-") None k (codes "exhausted")) seen
 
   row_is : (number : ℕ) (place : List ℕ) (outcome : Outcome) → Ok outcome ≡ (came l place).answer → shown number outcome (came l place) ≡ row number l
   unfolding row
   row_is number place outcome e = row_by number place (first_passing (admitted date_sets l) (reached l)) is_found outcome e
 
   -- word by word
-  pub row_told : (number : ℕ) (was : List ℕ) (outcome : Outcome) (place : List ℕ) (v : View) {reading : List ℕ} {total : Option ℕ} {looked : ℕ} {word : List ℕ}
+  pub row_told : (was : List ℕ) (outcome : Outcome) (place : List ℕ) (v : View) (r : Row)
       → Ok outcome ≡ (came l was).answer → v ≡ (came l was).state → place ≡ (came l was).place
-      → reading ≡ reading_word outcome place → total ≡ v.last_total → looked ≡ v.looked → word ≡ outcome_word outcome
-      → row_words number reading total looked word ≡ row number l
-  row_told number was outcome place v answer state left one two three four =
-      (λ i. row_words number (one i) (two i) (three i) (four i))
-      ∙ (λ i. row_words number (reading_word outcome (left i)) (state i).last_total (state i).looked (outcome_word outcome))
-      ∙ row_is number was outcome answer
+      → r.reading.now ≡ reading_word outcome place → r.total ≡ v.last_total → r.looked ≡ v.looked → r.outcome.now ≡ outcome_word outcome
+      → row_words r ≡ row r.number l
+  row_told was outcome place v r answer state left one two three four =
+      (λ i. words r.number (one i) (two i) (three i) (four i))
+      ∙ (λ i. words r.number (reading_word outcome (left i)) (state i).last_total (state i).looked (outcome_word outcome))
+      ∙ row_is r.number was outcome answer
 
   -- and it is short
   row_short_by : (number : ℕ) (o : Option (ℕ × Chain)) → ((found : ℕ × Chain) → o ≡ Some found → IsFound found) → number < 100 → length l ≤ 24 → length (row_of number l o) ≤ 49

@@ -1,5 +1,5 @@
 -- No list takes more than 2,048 bytes. Assumes nothing.
-use Rattle.std.proofs.Common.{◌≡◌, ℕ, ◌+◌, ◌*◌, ◌^◌, ◌<◌, ◌≤◌, true, false, Bool, eqb, ◌++◌, List, length, take, Ok, Err, Result, decimal, ⊎_elim, refl, ap, arith, length-append}
+use Rattle.std.proofs.Common.{◌≡◌, ℕ, ◌^◌, ◌<◌, ◌≤◌, ◌++◌, List, length, Ok, Err, Result, ⊎_elim, refl, ap, arith, length-append}
 use Rattle.std.proofs.lemmas.Bool.{cases_eq}
 use Rattle.std.proofs.lemmas.List.{take_all}
 use Rattle.pages.specs.declared.faults.CountFault.{CountFault}
@@ -19,7 +19,7 @@ use Rattle.pages.specs.Laws.{alternative_judged, cell_judged, line_judged, page_
 use Rattle.pages.proofs.Shape.{page_parts}
 use Rattle.pages.proofs.Round.{Octets, accepted_exactly}
 use Rattle.pages.proofs.Earlier.{first_wrong}
-use Rattle.lists.specs.Lists.{header, rows, refusal, list_of, date_list}
+use Rattle.lists.specs.Lists.{header, rows, list_of, date_list}
 use Rattle.lists.proofs.Words.{decimal_short, three_digits}
 use Rattle.lists.proofs.Printed.{list_short}
 

@@ -11,6 +11,7 @@ use Rattle.reader.specs.declared.calls.Outcome.{Outcome}
 use Rattle.reader.specs.declared.calls.Outcome.TheVariants.{Found, Spent, Exhausted}
 use Rattle.reader.specs.Views.{View}
 use Rattle.reader.specs.Calls.{Nexted, next_came}
+use Rattle.lists.specs.declared.rows.Row.{Row}
 use Rattle.lists.specs.Lists.{printed, live_chains, reached, date_list}
 
 -- LISTING into a place: the answer, and the place after it. A place of fewer than 2,048 bytes is refused and left whole; else the
@@ -60,9 +61,8 @@ outcome_word (Found cells) = codes "found"
 outcome_word Spent = codes "spent"
 outcome_word Exhausted = codes "exhausted"
 
--- a row of such words
-abbrev pub row_words : ℕ → List ℕ → Option ℕ → ℕ → List ℕ → List ℕ
-row_words number reading total looked outcome = printed (decimal number ∷ reading ∷ total_word total ∷ decimal looked ∷ outcome ∷ [])
+abbrev pub row_words : Row → List ℕ
+row_words r = printed (decimal r.number ∷ r.reading.now ∷ total_word r.total ∷ decimal r.looked ∷ r.outcome.now ∷ [])
 
 -- how many bytes were written
 abbrev pub found_bytes : Outcome → ℕ

@@ -24,7 +24,7 @@ fn count_lines(page: &[u8]) -> Result<usize, PageFault>
 {
     let mut count = 0;
     for line in PageLines::open(page)? {
-        let _ = line?;
+        line?;
         count += 1;
     }
     Ok(count)
@@ -91,7 +91,7 @@ fn list_line(list: &mut List, reader: &mut Reader<Date, Sum>, page: &[u8], numbe
         looked: reader.report().looked,
         outcome: outcome_word(outcome),
     };
-    put_row(list, row);
+    put_row(list, &row);
 }
 
 // The header, and a row for each line of a good page.

@@ -5,7 +5,7 @@ ghost use Rattle.lists.specs.Lists.{header, refusal};
 ghost use Rattle.lists.specs.Calls.{total_word, row_words};
 
 use arrayvec::ArrayVec;
-use itoa::Buffer;
+use itoa::{Buffer, Integer};
 use pages::PageFault;
 
 // No list takes more bytes, whatever the page.
@@ -33,10 +33,10 @@ fn put(list: &mut List, word: &[u8], end: u8)
     list.push(end);
 }
 
-fn put_number(list: &mut List, n: u64, end: u8)
-    requires { array_vec_len list.old + length (decimal n) + 1 ≤ 2048 }
-    ensures items { list.new.items ≡ list.old.items ++ (decimal n ++ end ∷ []) }
-    ensures len { array_vec_len list.new ≡ array_vec_len list.old + length (decimal n) + 1 }
+fn put_number<N: Integer>(list: &mut List, n: N, end: u8)
+    requires { array_vec_len list.old + length (N.text n) + 1 ≤ 2048 }
+    ensures items { list.new.items ≡ list.old.items ++ (N.text n ++ end ∷ []) }
+    ensures len { array_vec_len list.new ≡ array_vec_len list.old + length (N.text n) + 1 }
 {
     put(list, Buffer::new().format(n).as_bytes(), end);
 }
@@ -52,15 +52,22 @@ fn put_total(list: &mut List, total: Option<u64>, end: u8)
     }
 }
 
-pub(crate) fn put_row(list: &mut List, row: Row)
-    requires { array_vec_len list.old + length (row_words row.number row.reading.now row.total row.looked row.outcome.now) ≤ 2048 }
-    ensures { list.new.items ≡ list.old.items ++ row_words row.entry.number row.entry.reading.now row.entry.total row.entry.looked row.entry.outcome.now }
+pub(crate) fn put_row(list: &mut List, row: &Row)
+    requires { array_vec_len list.old + length (row_words row.now) ≤ 2048 }
+    ensures { list.new.items ≡ list.old.items ++ row_words row.now }
 {
-    put_number(list, row.number as u64, b' ');
-    put(list, row.reading, b' ');
-    put_total(list, row.total, b' ');
-    put_number(list, row.looked as u64, b' ');
-    put(list, row.outcome, b'\n');
+    let Row {
+        number,
+        reading,
+        total,
+        looked,
+        outcome,
+    } = *row;
+    put_number(list, number, b' ');
+    put(list, reading, b' ');
+    put_total(list, total, b' ');
+    put_number(list, looked, b' ');
+    put(list, outcome, b'\n');
 }
 
 #[tactic(auto, unfolding(crate::specs::Lists::header))]
@@ -78,8 +85,8 @@ pub(crate) fn list_refusal(fault: PageFault) -> List
 {
     let mut list = ArrayVec::new();
     put(&mut list, b"refused", b' ');
-    put_number(&mut list, u64::from(fault.number()), b' ');
+    put_number(&mut list, fault.number(), b' ');
     put(&mut list, b"at", b' ');
-    put_number(&mut list, fault.place() as u64, b'\n');
+    put_number(&mut list, fault.place(), b'\n');
     list
 }

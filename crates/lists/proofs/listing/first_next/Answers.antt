@@ -1,11 +1,11 @@
-use Rattle.std.proofs.Common.{◌≡◌, ◌≤◌, length, refl, subst, sym, ap, ◌∙◌, arith}
+use Rattle.std.proofs.Common.{◌≤◌, length, refl, subst, sym, ap, ◌∙◌, arith}
 use Rattle.std.specs.Result.{IsOk}
 use Rattle.pages.proofs.Round.{accepted_exactly}
 use Rattle.scores.specs.Scores.{sum_meaning}
 use Rattle.grammars.specs.Dates.{date_sets}
 use Rattle.reader.specs.Views.{view}
 use Rattle.reader.specs.Calls.{answered, granting, next_of}
-use Rattle.lists.specs.Calls.{line_at, came}
+use Rattle.lists.specs.Calls.{line_at}
 use Rattle.lists.proofs.Answered.{line_well, loads, grants, comes, came_ok, after_load, after_grant}
 use Rattle.lists.proofs.listing.first_next.Goals as goal
 

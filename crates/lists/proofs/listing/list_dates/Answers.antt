@@ -1,4 +1,4 @@
-use Rattle.std.proofs.Common.{◌≡◌, ◌^◌, ◌<◌, length, arith}
+use Rattle.std.proofs.Common.{arith}
 use Rattle.lists.proofs.Short.{always_short}
 use Rattle.lists.proofs.listing.list_dates.Goals as goal
 
