@@ -11,6 +11,8 @@ use Rattle.runs.specs.declared.rows.Call.{Call}
 use Rattle.runs.specs.declared.rows.Answer.{Answer}
 use Rattle.runs.specs.Runs.{Runs}
 use Rattle.runs.specs.Determined.{AlikeRows}
+use Rattle.std.specs.Fmt.{digits}
+use Rattle.lists.specs.Lists.{header, row, rows}
 use Rattle.worked.specs.Worked.{page, places, with_answers, ComesOut, WorkedReadings}
 use Rattle.worked.proofs.Played.{Play, play, every_run, one_run}
 
@@ -33,7 +35,7 @@ comes_out calls answers left e = record {
 }
 
 pub worked_readings : WorkedReadings
-unfolding longest read_page read_lines read_line read_cells read_cell read_alternatives
+unfolding longest digits row rows header read_page read_lines read_line read_cells read_cell read_alternatives
 worked_readings = record {
   leap_day = refl;
   no_leap_day = refl;
@@ -55,4 +57,7 @@ worked_readings = record {
   granted_6 = comes_out _ _ _ refl;
   watched_6 = comes_out _ _ _ refl;
   granted_2 = comes_out _ _ _ refl;
+  page_listed = refl;
+  refused_listed = refl;
+  no_date_listed = refl;
 }

@@ -21,6 +21,7 @@ use Rattle.runs.specs.declared.rows.Answer.TheVariants as answer
 use Rattle.runs.specs.declared.rows.Row.{Row}
 use Rattle.runs.specs.Runs.{live_chains, Runs}
 use Rattle.runs.specs.Determined.{AlikeRows}
+use Rattle.lists.specs.Lists.{row, date_list}
 
 -- a symbol at a penalty
 abbrev pub alt : ℕ → ℕ → Alternative
@@ -155,3 +156,7 @@ pub record WorkedReadings : Type 0 where
   pub watched_6 : ComesOut (watched 6) (watched_answers 6) readings
   -- two are spent before the first reading
   pub granted_2 : ComesOut (load_line ∷ call.Grant 2 ∷ next_into 0 ∷ call.Report ∷ []) (loaded ∷ granted ∷ next Spent ∷ told 2 2 0 ∷ []) places
+  -- the list of the page, that of a page without lines, and the row of a line that is no date
+  pub page_listed : date_list page ≡ codes "line reading total looked outcome\n0 20022023 5 3 found\n"
+  pub refused_listed : date_list (0x00 ∷ []) ≡ codes "refused 2 at 0\n"
+  pub no_date_listed : row 7 two_cells ≡ codes "7 - - 4 exhausted\n"
