@@ -30,7 +30,7 @@ all_light_line : (l : Cells) → AllByRecursion WellFormedCell l → all_light 6
 all_light_line [] h = refl
 all_light_line (c ∷ l) h = and_from (light 65535 c) (all_light 65535 l) (all_light_cell c h.0.ranges) (all_light_line l h.1)
 
-pub sum_takes : (l : Cells) → WellFormedLine l → takes sum_meaning l ≡ true
+sum_takes : (l : Cells) → WellFormedLine l → takes sum_meaning l ≡ true
 sum_takes l h = and_from (leb (length l) 24) (all_light 65535 l) (le-leb (length l) 24 h.few) (all_light_line l h.cells)
 
 -- a page with a line of some number is good
@@ -60,7 +60,7 @@ module _ (page : List ℕ) (accepted : Accepted page) (n : ℕ) (h : n < length 
 pub grants : (l : Cells) → length l ≤ 24 → granting (loaded l) 170 ≡ Ok tt
 grants l few = cond-true (leb (length l * (0 + 170)) 4095) (Ok tt) (Err refusal.Grant) (le-leb _ 4095 (omega arith))
 
-pub comes : (l : Cells) (place : List ℕ) → length l ≤ length place → next_of sum_meaning date_sets (granted l) place ≡ came l place
+comes : (l : Cells) (place : List ℕ) → length l ≤ length place → next_of sum_meaning date_sets (granted l) place ≡ came l place
 comes l place long = cond-false (ltb (length place) (length l)) (refuse_next (granted l) place refusal.Place) (came l place) (le-ltb (length place) (length l) long)
 
 -- with room for it the next is not refused
@@ -71,14 +71,20 @@ came_ok l place = go (first_passing (admitted date_sets l) (reached l))
     go None = refl
     go (Some found) = refl
 
--- what is seen of the reader after the load, and after the grant
+-- what is seen of the reader after the load, and after the grant; and what the next comes to
 module _ (page : List ℕ) (accepted : Accepted page) (n : ℕ) (h : n < length (lines_in page)) (was : View) {one : View} where
   pub after_load : one ≡ loaded_into was (loading sum_meaning page n) → one ≡ loaded (line_at page n)
   after_load e = e ∙ ap (loaded_into was) (loads page accepted n h)
 
-  pub after_grant : {two : View} → one ≡ loaded_into was (loading sum_meaning page n) → two ≡ granted_more one 170 (granting one 170) → two ≡ granted (line_at page n)
+  after_grant : {two : View} → one ≡ loaded_into was (loading sum_meaning page n) → two ≡ granted_more one 170 (granting one 170) → two ≡ granted (line_at page n)
   after_grant e f =
       let l = line_at page n in
       f
       ∙ ap (λ v. granted_more v 170 (granting v 170)) (after_load e)
       ∙ ap (granted_more (loaded l) 170) (grants l (line_well page accepted n h).few)
+
+  pub next_comes : {two : View} (place : List ℕ) → 24 ≤ length place → one ≡ loaded_into was (loading sum_meaning page n) → two ≡ granted_more one 170 (granting one 170)
+      → next_of sum_meaning date_sets two place ≡ came (line_at page n) place
+  next_comes place room e f =
+      let few = (line_well page accepted n h).few in
+      ap (λ v. next_of sum_meaning date_sets v place) (after_grant e f) ∙ comes (line_at page n) place (omega arith)

@@ -42,11 +42,11 @@ line_at page number = slice_index_or (lines_in page) number []
 abbrev pub granted : Cells → View
 granted l = record { line = Some l; granted = 170; looked = 0; handed = 0; last_total = None }
 
--- what the next then comes to, with room for the line's text
+-- what the next then comes to, with room for the line's text: the load, the grant and the next are not refused
 abbrev pub came : Cells → List ℕ → Nexted
 came l place = next_came sum_meaning l (granted l) place (length (live_chains l)) (first_passing (admitted date_sets l) (reached l))
 
--- the words of a row, from what the next answers and what it wrote, and from what is seen of the reader after it
+-- the words of a row, from what the next answered and wrote, and from what is seen of the reader after it
 abbrev pub reading_word : Outcome → List ℕ → List ℕ
 reading_word (Found cells) place = take cells place
 reading_word Spent place = codes "-"

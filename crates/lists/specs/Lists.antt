@@ -23,19 +23,19 @@ live_chains l = ranking sum_meaning date_sets.allows l
 abbrev pub reached : Cells → List Chain
 reached l = take 170 (live_chains l)
 
--- spent where more chains are live than the grant reaches
+-- with no reading found: spent where more chains are live than the grant reaches
 abbrev pub without_reading : Cells → List ℕ
 without_reading l = cond (nat_lt 170 (length (live_chains l))) (codes "spent") (codes "exhausted")
 
--- Of the line of a number: with a date found, its text, its total, and that those before it and itself were looked at; with none,
--- hyphens, and that all that the grant reaches were.
+-- The row of a line that has some number. With a reading found, of which is said how many of the chains reached stand before it, those
+-- and the reading itself were looked at; with none found, all that are reached were.
 abbrev pub row_of : ℕ → Cells → Option (ℕ × Chain) → List ℕ
 row_of number l (Some found) =
     printed (decimal number ∷ text l found.1 ∷ decimal (total sum_meaning l found.1) ∷ decimal (found.0 + 1) ∷ codes "found" ∷ [])
 row_of number l None =
     printed (decimal number ∷ codes "-" ∷ codes "-" ∷ decimal (length (reached l)) ∷ without_reading l ∷ [])
 
--- the first date among the chains that the grant reaches
+-- the reading found is the first admissible one of the chains reached: the first date
 unfoldable pub row : ℕ → Cells → List ℕ
 row number l = row_of number l (first_passing (admitted date_sets l) (reached l))
 
@@ -47,7 +47,7 @@ rows number (l ∷ more) = row number l ++ rows (number + 1) more
 unfoldable pub header : List ℕ
 header = codes "line reading total looked outcome\n"
 
--- the number and the place of the page's fault
+-- the returned number and the byte place of a page's fault
 abbrev pub refusal : PageFault → List ℕ
 refusal f = printed (codes "refused" ∷ decimal (page_returns f).number ∷ codes "at" ∷ decimal (page_returns f).place ∷ [])
 
