@@ -116,7 +116,7 @@ pub fn list_dates(
     page: &[u8],
     place: &mut [u8],
 ) -> Result<usize, PlaceFault>
-    requires { Agrees sum_meaning date_sets reader.old }
+    requires agrees { Agrees sum_meaning date_sets reader.old }
     ensures answer { result ≡ (listing page.now place.old).0 }
     ensures place { place.new ≡ (listing page.now place.old).1 }
     ensures short { length (date_list page.now) ≤ 2048 }
