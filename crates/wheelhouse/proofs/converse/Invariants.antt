@@ -1,0 +1,5 @@
+use Rattle.wheelhouse.specs.Desks.{Ready}
+use Rattle.wheelhouse.proofs.converse.Given as goal
+
+abbrev pub invariant-loop-line : goal.invariant-loop-line
+invariant-loop-line l = Ready l.desk
