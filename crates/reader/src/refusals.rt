@@ -1,6 +1,6 @@
 // Why a call of a reader is refused.
 ghost use Rattle.std.specs.Prelude.{◌≡◌};
-ghost use Rattle.reader.specs.Refusals.{number_of};
+ghost use Rattle.reader.specs.Refusals.{number_of, explained};
 ghost use Rattle.reader.specs.declared.refusals.Refusal.TheVariants as Refusals;
 
 use pages::{PageFault, PlaceFault};
@@ -29,6 +29,21 @@ impl Refusal {
             Refusal::Grant => 9,
             Refusal::Place => PlaceFault.number(),
             Refusal::LineNumber => 13,
+        }
+    }
+
+    // Why, in a few words. Of a bad page they say no more: what is wrong with it takes the page to tell.
+    #[tactic(auto, unfolding(crate::specs::Refusals::explained))]
+    pub fn explanation(&self) -> &'static str
+        ensures { result.now ≡ explained self.now }
+    {
+        match self {
+            Refusal::Page(_) => "the page is bad",
+            Refusal::Score => "the score does not take the line",
+            Refusal::NoLine => "no line is loaded",
+            Refusal::Grant => "the grant is 0 or too large",
+            Refusal::Place => "the place is too short",
+            Refusal::LineNumber => "the page has no such line",
         }
     }
 }

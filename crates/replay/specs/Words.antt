@@ -3,7 +3,7 @@ use Rattle.std.specs.Prelude.{ℕ, List, [], ◌∷◌, ◌++◌, take, drop, So
 use Rattle.std.specs.Borrow.{Bor}
 use Rattle.std.specs.Str.Lossy.{utf8_lossy}
 use Rattle.reports.specs.Words.{page_words}
-use Rattle.reader.specs.Refusals.{number_of}
+use Rattle.reader.specs.Refusals.{number_of, explained}
 use Rattle.reader.specs.declared.calls.Outcome.TheVariants.{Found, Spent, Exhausted}
 use Rattle.reader.specs.declared.refusals.Refusal.{Refusal}
 use Rattle.reader.specs.declared.refusals.Refusal.TheVariants as refusal
@@ -27,11 +27,7 @@ command_fault_words fault.Call = codes "a call is written load FILE LINE, grant 
 -- why a call was refused, of a bad page by the bytes of the page
 abbrev pub reason_words : List ℕ → Refusal → List ℕ
 reason_words page (refusal.Page f) = page_words page f
-reason_words page refusal.Score = codes "the score does not take the line"
-reason_words page refusal.NoLine = codes "no line is loaded"
-reason_words page refusal.Grant = codes "the grant is 0 or too large"
-reason_words page refusal.Place = codes "the place is too short"
-reason_words page refusal.LineNumber = codes "the page has no such line"
+reason_words page r = explained r
 
 -- what a call answered, of a reading by the first bytes of its place
 abbrev pub answer_words : List ℕ → List ℕ → Result Answer Refusal → List ℕ

@@ -41,11 +41,7 @@ fn reason(heap: Global, page: &[u8], refusal: Refusal) -> Result<String, AllocEr
 {
     match refusal {
         Refusal::Page(fault) => explain(heap, page, fault),
-        Refusal::Score => "the score does not take the line".to_string(heap),
-        Refusal::NoLine => "no line is loaded".to_string(heap),
-        Refusal::Grant => "the grant is 0 or too large".to_string(heap),
-        Refusal::Place => "the place is too short".to_string(heap),
-        Refusal::LineNumber => "the page has no such line".to_string(heap),
+        other => other.explanation().to_string(heap),
     }
 }
 

@@ -4,7 +4,7 @@ use Rattle.hex.specs.Hex.{encode_upper}
 use Rattle.reports.specs.Words.{page_words}
 use Rattle.descriptions.specs.declared.Kind.{Kind}
 use Rattle.descriptions.specs.Words.{kind_words}
-use Rattle.reader.specs.Refusals.{number_of}
+use Rattle.reader.specs.Refusals.{number_of, explained}
 use Rattle.reader.specs.declared.refusals.Refusal.{Refusal}
 use Rattle.reader.specs.declared.refusals.Refusal.TheVariants as refusal
 use Rattle.wheelhouse.specs.declared.words.Note.{Note}
@@ -12,19 +12,10 @@ use Rattle.wheelhouse.specs.declared.words.Note.TheVariants.{Help, NoAnswer, Not
 use Rattle.wheelhouse.specs.declared.words.Unfound.{Unfound}
 use Rattle.wheelhouse.specs.declared.words.Unfound.TheVariants.{Spent, SpentAll, Exhausted}
 
--- why a call of the reader was refused, but for the words of a page's fault
-unfoldable pub reason_words : Refusal → List ℕ
-reason_words (refusal.Page f) = codes "the page is bad"
-reason_words refusal.Score = codes "the score does not take the line"
-reason_words refusal.NoLine = codes "no line is loaded"
-reason_words refusal.Grant = codes "the grant is 0 or too large"
-reason_words refusal.Place = codes "the place is too short"
-reason_words refusal.LineNumber = codes "the page has no such line"
-
--- the same, of a bad page by its bytes
+-- why a call of the reader was refused, of a bad page by its bytes
 abbrev pub cause_words : List ℕ → Refusal → List ℕ
 cause_words page (refusal.Page f) = page_words page f
-cause_words page r = reason_words r
+cause_words page r = explained r
 
 abbrev pub refusal_words : List ℕ → Refusal → List ℕ
 refusal_words page r = codes "refused " ++ (decimal (number_of r) ++ (codes ", " ++ cause_words page r))
@@ -35,7 +26,7 @@ note_words NoAnswer = codes "no answer: y confirms the reading shown, n calls fo
 note_words NothingShown = codes "no reading is shown that y could confirm"
 note_words (Granted chains granted) = codes "granted " ++ (decimal chains ++ (codes " more, " ++ (decimal granted ++ codes " in all")))
 note_words (Refused r room) =
-    codes "refused " ++ (decimal (number_of r) ++ (codes ", " ++ (reason_words r ++ (codes ": up to " ++ (decimal room ++ codes " more may be granted")))))
+    codes "refused " ++ (decimal (number_of r) ++ (codes ", " ++ (explained r ++ (codes ": up to " ++ (decimal room ++ codes " more may be granted")))))
 
 -- why no reading is shown: of a spent line its grant, and how many more it takes, if any
 unfoldable pub unfound_words : Unfound → List ℕ

@@ -1,7 +1,7 @@
 // What the owner is told.
 ghost use Rattle.std.specs.Prelude.{◌≡◌, ◌++◌, Some, IfOk, string_bytes};
 ghost use Rattle.reader.specs.declared.refusals.Refusal.{Refusal};
-ghost use Rattle.wheelhouse.specs.Words.{reason_words, refusal_words, note_words, unfound_words, reading_words, plotted_words};
+ghost use Rattle.wheelhouse.specs.Words.{refusal_words, note_words, unfound_words, reading_words, plotted_words};
 
 use descriptions::Kind;
 use reader::Refusal;
@@ -34,21 +34,6 @@ pub enum Unfound {
     Exhausted,
 }
 
-// Why a call of the reader was refused, but for the words of a page's fault.
-#[tactic(auto, unfolding(crate::specs::Words::reason_words))]
-fn reason(refusal: Refusal) -> &'static str
-    ensures { result.now ≡ reason_words refusal }
-{
-    match refusal {
-        Refusal::Page(_) => "the page is bad",
-        Refusal::Score => "the score does not take the line",
-        Refusal::NoLine => "no line is loaded",
-        Refusal::Grant => "the grant is 0 or too large",
-        Refusal::Place => "the place is too short",
-        Refusal::LineNumber => "the page has no such line",
-    }
-}
-
 // Why no line could be loaded: a bad page has the words that its report has.
 pub fn refused(heap: Global, page: &[u8], refusal: Refusal) -> Result<String, AllocError>
     ensures { IfOk result (λ s. string_bytes s ≡ refusal_words page.now refusal) }
@@ -60,7 +45,7 @@ pub fn refused(heap: Global, page: &[u8], refusal: Refusal) -> Result<String, Al
             format!(in heap; "refused {number}, {words}")
         }
         other => {
-            let words = reason(other);
+            let words = other.explanation();
             format!(in heap; "refused {number}, {words}")
         }
     }
@@ -84,7 +69,7 @@ impl fmt::Display for Note {
             }
             Note::Refused { refusal, room } => {
                 let number = refusal.number();
-                let words = reason(refusal);
+                let words = refusal.explanation();
                 write!(
                     f,
                     "refused {number}, {words}: up to {room} more may be granted"
