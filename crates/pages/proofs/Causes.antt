@@ -17,13 +17,13 @@ use Rattle.pages.specs.declared.faults.Returned.{Returned}
 use Rattle.pages.specs.Shape.{Alternatives, Cells, Lines, seen}
 use Rattle.pages.specs.Faults.{count_returns, alternative_returns, cell_returns, line_returns, page_returns}
 use Rattle.pages.specs.Reading.{last_penalty, symbol_at, penalty_at, onward, read_alternative, read_count, read_alternatives, read_cell, read_cells, read_line, read_lines, read_page}
-use Rattle.pages.specs.Laws.{SaysTrue, penalty_of}
+use Rattle.pages.specs.Laws.{SaysTrue, line_most, page_most, penalty_of}
 use Rattle.pages.proofs.Round.{Reads, reads, last_push}
 use Rattle.pages.proofs.Local.{bad_before}
 
 -- nothing is said by 1 and by 6
-silent : (bytes : List ℕ) (r : Returned) → (r.number ≡ 1) ⊎ (r.number ≡ 6) → SaysTrue bytes r
-silent bytes r e =
+silent : (bytes : List ℕ) (most : ℕ) (r : Returned) → (r.number ≡ 1) ⊎ (r.number ≡ 6) → SaysTrue bytes most r
+silent bytes most r e =
     let not-it : (n : ℕ) → 1 < n → n < 6 → r.number ≡ n → ⊥ = λ n lo hi is. ⊎_elim (λ one. omega arith) (λ six. omega arith) e in
     record {
       count = λ is. absurd (not-it 2 (omega arith) (omega arith) is);
@@ -73,9 +73,9 @@ alternative_causes : (bytes : List ℕ) (at : ℕ) (before : Alternatives) (g : 
     ⊎ (((alternative.Twice at ≡ g) × (seen (symbol_at bytes at) before ≡ true)) ⊎ ((alternative.Order (at + 1) ≡ g) × (penalty_at bytes at < last_penalty before))))
 alternative_causes bytes at before g e = grind (arith, nat_tests)
 
-alternative_true : (bytes : List ℕ) (at : ℕ) (before : Alternatives) (g : AlternativeFault) → Behind bytes at before → read_alternative bytes at before ≡ Err g → SaysTrue bytes (alternative_returns g)
+alternative_true : (bytes : List ℕ) (at : ℕ) (before : Alternatives) (g : AlternativeFault) → Behind bytes at before → read_alternative bytes at before ≡ Err g → SaysTrue bytes 8 (alternative_returns g)
 alternative_true bytes at before g h e =
-    ⊎_elim (λ is. told is (silent bytes _ (inl refl)))
+    ⊎_elim (λ is. told is (silent bytes 8 _ (inl refl)))
     (⊎_elim
     (λ p. told p.0 (record { count = λ n. absurd (omega arith); symbol = λ n. p.1; twice = λ n. absurd (omega arith); order = λ n. absurd (omega arith) }))
     (⊎_elim
@@ -99,78 +99,93 @@ alternative_true bytes at before g h e =
     }))))
     (alternative_causes bytes at before g e)
   where
-    told : {y : AlternativeFault} → y ≡ g → SaysTrue bytes (alternative_returns y) → SaysTrue bytes (alternative_returns g)
-    told is s = subst (λ v. SaysTrue bytes (alternative_returns v)) is s
+    told : {y : AlternativeFault} → y ≡ g → SaysTrue bytes 8 (alternative_returns y) → SaysTrue bytes 8 (alternative_returns g)
+    told is s = subst (λ v. SaysTrue bytes 8 (alternative_returns v)) is s
 
 -- a count that is refused
 count_causes : (most : ℕ) (bytes : List ℕ) (at : ℕ) (g : CountFault) → read_count most bytes at ≡ Err g
     → (count.Short (length bytes) ≡ g) ⊎ ((count.Count at ≡ g) × ((get_or bytes at 0 ≡ 0) ⊎ (most < get_or bytes at 0)))
 count_causes most bytes at g e = grind (arith, nat_tests)
 
-count_true : (most : ℕ) (bytes : List ℕ) (at : ℕ) (g : CountFault) → 8 ≤ most → read_count most bytes at ≡ Err g → SaysTrue bytes (count_returns g)
-count_true most bytes at g le e =
-    ⊎_elim (λ is. told is (silent bytes _ (inl refl)))
+count_true : (most : ℕ) (bytes : List ℕ) (at : ℕ) (g : CountFault) → read_count most bytes at ≡ Err g → SaysTrue bytes most (count_returns g)
+count_true most bytes at g e =
+    ⊎_elim (λ is. told is (silent bytes most _ (inl refl)))
     (λ p.
     told p.0
     (record {
-      count = λ n. ⊎_elim inl (λ high. inr (omega arith)) p.1;
+      count = λ n. p.1;
       symbol = λ n. absurd (omega arith);
       twice = λ n. absurd (omega arith);
       order = λ n. absurd (omega arith);
     }))
     (count_causes most bytes at g e)
   where
-    told : {y : CountFault} → y ≡ g → SaysTrue bytes (count_returns y) → SaysTrue bytes (count_returns g)
-    told is s = subst (λ v. SaysTrue bytes (count_returns v)) is s
+    told : {y : CountFault} → y ≡ g → SaysTrue bytes most (count_returns y) → SaysTrue bytes most (count_returns g)
+    told is s = subst (λ v. SaysTrue bytes most (count_returns v)) is s
 
 -- a fault below, or one behind a value
-module _ {A B E F : Type 0} (up : E → F) (low : E → Returned) (high : F → Returned) (same : (e : E) → high (up e) ≡ low e) (bytes : List ℕ) where
-  either : (r : Result A E) (S : A → Result B F) (f : F) → ((e : E) → r ≡ Err e → SaysTrue bytes (low e)) → ((x : A) → r ≡ Ok x → S x ≡ Err f → SaysTrue bytes (high f))
-      → onward r up S ≡ Err f → SaysTrue bytes (high f)
+module _ {A B E F : Type 0} (up : E → F) (Low : E → Type 0) (High : F → Type 0) (lift : (e : E) → Low e → High (up e)) where
+  either : (r : Result A E) (S : A → Result B F) (f : F) → ((e : E) → r ≡ Err e → Low e) → ((x : A) → r ≡ Ok x → S x ≡ Err f → High f) → onward r up S ≡ Err f → High f
   either (Ok x) S f below behind e = behind x refl e
   either (Err g) S f below behind e =
       let is : up g ≡ f = cc in
-      subst (λ v. SaysTrue bytes (high v)) is (subst (SaysTrue bytes) (sym (same g)) (below g refl))
+      subst High is (lift g (below g refl))
 
-alternatives_true : (bytes : List ℕ) (due at : ℕ) (before : Alternatives) (f : CellFault) → Behind bytes at before → read_alternatives bytes due at before ≡ Err f → SaysTrue bytes (cell_returns f)
+-- so are the faults of each part
+abbrev TrueAlternative : List ℕ → AlternativeFault → Type 0
+TrueAlternative bytes f = SaysTrue bytes 8 (alternative_returns f)
+
+abbrev TrueCount : ℕ → List ℕ → CountFault → Type 0
+TrueCount most bytes f = SaysTrue bytes most (count_returns f)
+
+abbrev TrueCell : List ℕ → CellFault → Type 0
+TrueCell bytes f = SaysTrue bytes 8 (cell_returns f)
+
+abbrev TrueLine : List ℕ → LineFault → Type 0
+TrueLine bytes f = SaysTrue bytes (line_most f) (line_returns f)
+
+abbrev TruePage : List ℕ → PageFault → Type 0
+TruePage bytes f = SaysTrue bytes (page_most f) (page_returns f)
+
+alternatives_true : (bytes : List ℕ) (due at : ℕ) (before : Alternatives) (f : CellFault) → Behind bytes at before → read_alternatives bytes due at before ≡ Err f → TrueCell bytes f
 unfolding read_alternatives
 alternatives_true bytes zero at before f h e = cc
 alternatives_true bytes (suc due) at before f h e =
-    either cell.Alternative alternative_returns cell_returns (λ g. refl) bytes (read_alternative bytes at before) _ f (λ g is. alternative_true bytes at before g h is)
+    either cell.Alternative (TrueAlternative bytes) (TrueCell bytes) (λ g so. so) (read_alternative bytes at before) _ f (λ g is. alternative_true bytes at before g h is)
     (λ a is more. alternatives_true bytes due (at + 3) (before ++ a ∷ []) f (behind_more bytes at before a (reads bytes at before a is) h) more) e
 
-cell_true : (bytes : List ℕ) (at : ℕ) (f : CellFault) → read_cell bytes at ≡ Err f → SaysTrue bytes (cell_returns f)
+cell_true : (bytes : List ℕ) (at : ℕ) (f : CellFault) → read_cell bytes at ≡ Err f → TrueCell bytes f
 unfolding read_cell
 cell_true bytes at f e =
-    either cell.Count count_returns cell_returns (λ g. refl) bytes (read_count 8 bytes at) _ f (λ g is. count_true 8 bytes at g (omega arith) is)
+    either cell.Count (TrueCount 8 bytes) (TrueCell bytes) (λ g so. so) (read_count 8 bytes at) _ f (λ g is. count_true 8 bytes at g is)
     (λ due is more. alternatives_true bytes due (at + 1) [] f (behind_none bytes (at + 1)) more) e
 
-cells_true : (bytes : List ℕ) (due at : ℕ) (before : Cells) (f : LineFault) → read_cells bytes due at before ≡ Err f → SaysTrue bytes (line_returns f)
+cells_true : (bytes : List ℕ) (due at : ℕ) (before : Cells) (f : LineFault) → read_cells bytes due at before ≡ Err f → TrueLine bytes f
 unfolding read_cells
 cells_true bytes zero at before f e = cc
 cells_true bytes (suc due) at before f e =
-    either (λ g. line.Cell (record { number = length before; fault = g })) cell_returns line_returns (λ g. refl) bytes (read_cell bytes at) _ f (λ g is. cell_true bytes at g is)
+    either (λ g. line.Cell (record { number = length before; fault = g })) (TrueCell bytes) (TrueLine bytes) (λ g so. so) (read_cell bytes at) _ f (λ g is. cell_true bytes at g is)
     (λ c is more. cells_true bytes due c.1 (before ++ c.0 ∷ []) f more) e
 
-line_true : (bytes : List ℕ) (at : ℕ) (f : LineFault) → read_line bytes at ≡ Err f → SaysTrue bytes (line_returns f)
+line_true : (bytes : List ℕ) (at : ℕ) (f : LineFault) → read_line bytes at ≡ Err f → TrueLine bytes f
 unfolding read_line
 line_true bytes at f e =
-    either line.Count count_returns line_returns (λ g. refl) bytes (read_count 24 bytes at) _ f (λ g is. count_true 24 bytes at g (omega arith) is)
+    either line.Count (TrueCount 24 bytes) (TrueLine bytes) (λ g so. so) (read_count 24 bytes at) _ f (λ g is. count_true 24 bytes at g is)
     (λ due is more. cells_true bytes due (at + 1) [] f more) e
 
-end_true : (t : Bool) (bytes : List ℕ) (at : ℕ) (f : PageFault) → cond {A = Result Lines PageFault} t (Err (page.Excess at)) (Ok []) ≡ Err f → SaysTrue bytes (page_returns f)
-end_true true bytes at f e = let is : page.Excess at ≡ f = cc in subst (λ v. SaysTrue bytes (page_returns v)) is (silent bytes _ (inr refl))
+end_true : (t : Bool) (bytes : List ℕ) (at : ℕ) (f : PageFault) → cond {A = Result Lines PageFault} t (Err (page.Excess at)) (Ok []) ≡ Err f → TruePage bytes f
+end_true true bytes at f e = let is : page.Excess at ≡ f = cc in subst (TruePage bytes) is (silent bytes 40 _ (inr refl))
 end_true false bytes at f e = cc
 
-lines_true : (bytes : List ℕ) (due at number : ℕ) (f : PageFault) → read_lines bytes due at number ≡ Err f → SaysTrue bytes (page_returns f)
+lines_true : (bytes : List ℕ) (due at number : ℕ) (f : PageFault) → read_lines bytes due at number ≡ Err f → TruePage bytes f
 unfolding read_lines
 lines_true bytes zero at number f e = end_true (ltb at (length bytes)) bytes at f e
 lines_true bytes (suc due) at number f e =
-    either (λ g. page.Line (record { number = number; fault = g })) line_returns page_returns (λ g. refl) bytes (read_line bytes at) _ f (λ g is. line_true bytes at g is)
+    either (λ g. page.Line (record { number = number; fault = g })) (TrueLine bytes) (TruePage bytes) (λ g so. so) (read_line bytes at) _ f (λ g is. line_true bytes at g is)
     (λ l is more. lines_true bytes due l.1 (number + 1) f (bad_before l.0 _ more)) e
 
-pub page_true : (bytes : List ℕ) (f : PageFault) → read_page bytes ≡ Err f → SaysTrue bytes (page_returns f)
+pub page_true : (bytes : List ℕ) (f : PageFault) → read_page bytes ≡ Err f → TruePage bytes f
 unfolding read_page
 page_true bytes f e =
-    either page.Count count_returns page_returns (λ g. refl) bytes (read_count 40 bytes 0) _ f (λ g is. count_true 40 bytes 0 g (omega arith) is)
+    either page.Count (TrueCount 40 bytes) (TruePage bytes) (λ g so. so) (read_count 40 bytes 0) _ f (λ g is. count_true 40 bytes 0 g is)
     (λ due is more. lines_true bytes due 1 0 f more) e

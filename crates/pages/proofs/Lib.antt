@@ -5,4 +5,5 @@ pub mod Writes
 pub mod Round
 pub mod Local
 pub mod Causes
+pub mod Behind
 pub mod Earlier

@@ -57,13 +57,13 @@ counts_back : (most : ℕ) (bytes : List ℕ) (at n : ℕ) → Counts most bytes
 counts_back most bytes at n h = grind (arith, nat_tests)
 
 -- bytes one after another
-stands_none : (bytes : List ℕ) (at next : ℕ) → at ≤ length bytes → next ≡ at → Stands bytes at [] next
+pub stands_none : (bytes : List ℕ) (at next : ℕ) → at ≤ length bytes → next ≡ at → Stands bytes at [] next
 stands_none bytes at next h e = record { here = ap (λ n. drop n bytes) (sym e); size = omega arith; fits = omega arith }
 
-stands_one : (bytes : List ℕ) (at v : ℕ) → at < length bytes → get_or bytes at 0 ≡ v → Stands bytes at (v ∷ []) (at + 1)
+pub stands_one : (bytes : List ℕ) (at v : ℕ) → at < length bytes → get_or bytes at 0 ≡ v → Stands bytes at (v ∷ []) (at + 1)
 stands_one bytes at v h e = record { here = drop_more bytes at 0 h ∙ ap (λ x. x ∷ drop (at + 1) bytes) e; size = refl; fits = omega arith }
 
-stands_join : {bytes a b : List ℕ} {at mid next : ℕ} → Stands bytes at a mid → Stands bytes mid b next → Stands bytes at (a ++ b) next
+pub stands_join : {bytes a b : List ℕ} {at mid next : ℕ} → Stands bytes at a mid → Stands bytes mid b next → Stands bytes at (a ++ b) next
 stands_join {bytes} {a} {b} {at} {mid} {next} h g =
     record {
       here = h.here ∙ ap (λ l. a ++ l) g.here ∙ sym (append_assoc a b (drop next bytes));
