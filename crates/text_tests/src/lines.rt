@@ -35,10 +35,17 @@ fn lines_for_texts(rt: HostRuntime) -> Result<(), Fail> {
 #[test]
 fn corners(rt: HostRuntime) -> Result<(), Fail> {
     assert!(rt; read_sheet(SOUTHWEST, NORTHEAST).is_ok());
-    let cases: [(&[u8], &[u8], CornerFault, &str); 3] = [
+    // Where both corners fail, the southwest is named.
+    let cases: [(&[u8], &[u8], CornerFault, &str); 4] = [
         (
             b"49N",
             NORTHEAST,
+            CornerFault::Southwest,
+            "the southwest corner is no position",
+        ),
+        (
+            b"49N",
+            b"51N",
             CornerFault::Southwest,
             "the southwest corner is no position",
         ),

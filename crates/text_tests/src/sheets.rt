@@ -96,6 +96,8 @@ fn combined_grammars(rt: HostRuntime) {
     assert!(rt; !entry.is_admitted(b"290220005012345N00412345E"));
     assert!(rt; entry.is_allowed(b"290220005012345N00412345"));
     assert!(rt; !entry.is_allowed(b"290220005012345N181"));
+    // A position off the sheet: the first of `Both` allows it, and the second does not.
+    assert!(rt; !entry.is_allowed(b"290220005012345N00412345E"));
 }
 
 #[test]
