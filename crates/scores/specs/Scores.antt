@@ -1,5 +1,5 @@
 -- What a score means, what it is held to, and what the two scores mean.
-use Rattle.std.specs.Prelude.{◌≡◌, ℕ, ◌+◌, ◌-◌, ◌*◌, ◌^◌, ◌<◌, ◌≤◌, min, Bool, true, not, ◌&&◌, ◌⊎◌, List, [], ◌∷◌, length, sum, nat_le, All}
+use Rattle.std.specs.Prelude.{◌≡◌, ℕ, ◌+◌, ◌-◌, ◌*◌, ◌^◌, ◌<◌, ◌≤◌, min, Bool, true, not, ◌&&◌, ◌⊎◌, List, [], ◌∷◌, ◌++◌, length, sum, nat_le, All}
 use Rattle.std.specs.List.{fold}
 
 -- The meaning of a score: the start total, the step from a total and a penalty to a total, whether one total is no worse than
@@ -29,6 +29,12 @@ better_by s t u = s.no_worse t u && not (s.no_worse u t)
 -- the total after the penalties ps, from the total t on
 abbrev pub stepped : Meaning → ℕ → List ℕ → ℕ
 stepped s t ps = fold s.step t ps
+
+-- Of every score: with no penalty the total is the one from which it starts, and one penalty more, behind the others, is one
+-- step more.
+pub record Stepwise : Type 0 where
+  pub none : (s : Meaning) (t : ℕ) → stepped s t [] ≡ t
+  pub one_more : (s : Meaning) (t p : ℕ) (ps : List ℕ) → stepped s t (ps ++ (p ∷ [])) ≡ s.step (stepped s t ps) p
 
 -- ps are at most as many penalties as the score takes cells, none above its highest
 abbrev pub Taken : Meaning → List ℕ → Type 0

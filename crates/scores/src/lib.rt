@@ -2,7 +2,7 @@
 #![tactic(auto)]
 
 ghost use Rattle.std.specs.Prelude.{◌≡◌, ℕ, refl};
-ghost use Rattle.scores.specs.Scores.{Meaning, Laws, better_by, stepped, sum_meaning, shares_meaning, Exact};
+ghost use Rattle.scores.specs.Scores.{Meaning, Laws, better_by, stepped, sum_meaning, shares_meaning, Stepwise, Exact};
 ghost use Rattle.std.proofs.Common.{rules};
 
 // Totals and penalties are plain numbers, the operands of a score.
@@ -125,6 +125,7 @@ pub fn better<S: Score>(a: u64, b: u64) -> bool
 // score's two figures.
 pub fn total<S: Score>(penalties: &[u16]) -> u64
     ensures value { result ≡ stepped S.meaning S.meaning.start penalties.now }
+    ensures stepwise { Stepwise }
     ensures exact { Exact }
 {
     penalties
