@@ -1,1 +1,2 @@
 pub mod Calendar
+pub mod Joined

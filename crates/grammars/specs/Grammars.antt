@@ -1,5 +1,5 @@
 -- What a grammar means and is held to, and the meaning of the combinations Both and Then.
-use Rattle.std.specs.Prelude.{◌≡◌, ℕ, Bool, true, false, cond, ◌&&◌, List, [], length, take, drop, Ok, Err, Result, ◌==◌, nat_le}
+use Rattle.std.specs.Prelude.{◌≡◌, ℕ, Bool, true, false, cond, ◌&&◌, List, [], ◌++◌, length, take, drop, Ok, Err, Result, ◌==◌, nat_le}
 use Rattle.grammars.specs.declared.Refusal.{Refusal}
 use Rattle.grammars.specs.declared.Refusal.TheVariants.{Table}
 
@@ -47,6 +47,10 @@ both a b = record { admits = in_both a.admits b.admits; allows = in_both a.allow
 -- a text of n symbols or more, whose first n are in a and whose rest is in b
 abbrev pub split_at : ℕ → Texts → Texts → Texts
 split_at n a b s = nat_le n (length s) && (a (take n s) && b (drop n s))
+
+-- s is a text of n symbols that is in a, and then a text that is in b
+abbrev pub Joined : ℕ → Texts → Texts → List ℕ → Type 0
+Joined n a b s = (head tail : List ℕ) × (length head ≡ n) × (a head ≡ true) × (b tail ≡ true) × (s ≡ head ++ tail)
 
 -- an opening of at most n symbols is in opens_a; of a longer one the first n are in a and the rest in opens_b
 abbrev pub opens_at : ℕ → Texts → Texts → Texts → Texts

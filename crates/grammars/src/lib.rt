@@ -1,8 +1,8 @@
 // Grammars: which texts are admitted, and which openings are allowed.
 #![tactic(auto)]
 
-ghost use Rattle.std.specs.Prelude.{◌≡◌, take};
-ghost use Rattle.grammars.specs.Grammars.{refusal, check_returns, Sets, Lawful, both, then_by};
+ghost use Rattle.std.specs.Prelude.{◌≡◌, take, Decides};
+ghost use Rattle.grammars.specs.Grammars.{refusal, check_returns, Sets, Lawful, both, split_at, Joined, then_by};
 ghost use Rattle.std.proofs.lemmas.Bool.{and_parts, and_from};
 ghost use Rattle.grammars.specs.Combined.{then_empty, then_begun, then_shorter};
 
@@ -99,7 +99,12 @@ impl<P: Grammar, Q: Grammar> Grammar for Then<P, Q> {
           begun = then_begun t.cut p.admits p.allows q.admits q.allows below_p.begun below_q.begun;
         } };
 
-    fn is_admitted(&self, text: &[u8]) -> bool {
+    // A text is admitted that is one of `cut` symbols for the head and then one for the tail.
+    #[tactic(auto, using(crate::proofs::Joined::joined))]
+    fn is_admitted(&self, text: &[u8]) -> bool
+        ensures value { result ≡ split_at self.now.cut (P.Grammar.meaning self.now.head).admits (Q.Grammar.meaning self.now.tail).admits text.now }
+        ensures joined { Decides result (Joined self.now.cut (P.Grammar.meaning self.now.head).admits (Q.Grammar.meaning self.now.tail).admits text.now) }
+    {
         let Some((head, tail)) = text.split_at_checked(usize::from(self.cut)) else {
             return false;
         };

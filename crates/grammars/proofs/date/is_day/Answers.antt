@@ -1,4 +1,4 @@
-use Rattle.std.proofs.Common.{◌≡◌, true, false, ◌&&◌, sym, ◌∙◌, rules}
+use Rattle.std.proofs.Common.{◌≡◌, true, ◌&&◌, sym, ◌∙◌, rules}
 use Rattle.positions.specs.Numerals.{within}
 use Rattle.grammars.specs.Dates.{length_of}
 use Rattle.grammars.proofs.date.is_day.Goals as goal
