@@ -89,7 +89,7 @@ parent_first s laws line sound c p i h chain =
     let last = last_of c i h.place in
     let up = last.up in
     subst (λ q. before s line q c ≡ true) (sym h.is)
-    (before_from s laws line (set c i (get_or c i 0 - 1)) c (set_no_worse s laws line sound c chain i (get_or c i 0 - 1) (omega arith) s.start)
+    (before_from s laws line (set c i (get_or c i 0 - 1)) c (set_no_worse s laws line sound c chain i (get_or c i 0 - 1) (omega arith) _)
     (inr (lower_set c i (get_or c i 0 - 1) (omega arith))))
 
 -- the root

@@ -1,6 +1,6 @@
 -- `before` is a strict order of the chains of a line. Assumes nothing.
-use Rattle.std.proofs.Common.{◌≡◌, ℕ, ◌<◌, Bool, true, false, not, ◌&&◌, ◌||◌, eqb, ltb, ◌⊎◌, [], ◌∷◌, length, sym, refl, ◌∙◌, inl, inr, ⊎_elim, arith}
-use Rattle.std.proofs.lemmas.Bool.{both_ways, cases_Bool, cases_order, or_cases, or_left, or_right, and_parts, and_from, ltb-true, lt-ltb, eqb-true, eq-eqb, false≢true}
+use Rattle.std.proofs.Common.{◌≡◌, ℕ, zero, suc, ◌<◌, Bool, true, false, not, ◌&&◌, ◌||◌, eqb, ltb, ◌⊎◌, [], ◌∷◌, length, get_or, take, sym, refl, ◌∙◌, inl, inr, ⊎_elim, arith}
+use Rattle.std.proofs.lemmas.Bool.{both_ways, cases_Bool, cases_order, or_cases, or_left, or_right, and_parts, and_from, not-true, ltb-true, lt-ltb, eqb-true, eq-eqb, false≢true}
 use Rattle.scores.specs.Scores.{Meaning, Laws}
 use Rattle.pages.specs.Shape.{Cells}
 use Rattle.search.specs.Chains.{Chain, total, lower, before}
@@ -16,6 +16,16 @@ lower_less x y a b h = or_left (ltb x y) (eqb x y && lower a b) (lt-ltb x y h)
 
 pub lower_same : (x y : ℕ) (a b : Chain) → x ≡ y → lower a b ≡ true → lower (x ∷ a) (y ∷ b) ≡ true
 lower_same x y a b e h = or_right (ltb x y) (eqb x y && lower a b) (and_from (eqb x y) (lower a b) (eq-eqb x y e) h)
+
+-- lower in one cell, and the same before it
+lower_at : (a b : Chain) (i : ℕ) → i < length a → i < length b → take i a ≡ take i b → get_or a i 0 < get_or b i 0 → lower a b ≡ true
+lower_at [] b i ia ib e h = absurd (omega arith)
+lower_at (x ∷ a) [] i ia ib e h = absurd (omega arith)
+lower_at (x ∷ a) (y ∷ b) zero ia ib e h = lower_less x y a b h
+lower_at (x ∷ a) (y ∷ b) (suc i) ia ib e h =
+    let first : x ≡ y = cc in
+    let rest : take i a ≡ take i b = cc in
+    lower_same x y a b first (lower_at a b i (omega arith) (omega arith) rest h)
 
 lower_self : (a : Chain) → lower a a ≡ true → ⊥
 lower_self [] h = false≢true h
@@ -106,4 +116,6 @@ strict_total s laws line = record {
   irreflexive = before_self s laws line;
   transitive = before_trans s laws line;
   either = λ a b ca cb. before_either s laws line a b (ca.long ∙ sym cb.long);
+  better = λ a b h. let p = and_parts (s.no_worse (total s line a) (total s line b)) _ h in before_from s laws line a b p.0 (inl (not-true _ p.1));
+  tied = λ a b h k i ia ib e l. before_from s laws line a b h (inr (lower_at a b i ia ib e l));
 }

@@ -3,12 +3,14 @@
 #![tactic(auto)]
 
 ghost use Rattle.search.specs.BestFirst.{BestFirstOf};
-ghost use Rattle.search.specs.Theorems.{ChainsListed, TextTellsChain, StrictTotalOrder, RankingOfLiveChains, AdmissibleIsLive, LiveChainsGrow, ChildrenAreFew, BestFirstOfChains, FrontierIsSmall};
+ghost use Rattle.search.specs.Theorems.{ChainsListed, TakenCellByCell, TextTellsChain, LastRaisedDecides, StrictTotalOrder, RankingOfLiveChains, AdmissibleIsLive, LiveChainsGrow, ChildrenAreFew, BestFirstOfChains, FrontierIsSmall};
 
 // The chains of a line and their order.
 pub fn chains_stand()
     ensures listed { ChainsListed }
+    ensures taken { TakenCellByCell }
     ensures text { TextTellsChain }
+    ensures last_raised { LastRaisedDecides }
     ensures order { StrictTotalOrder }
     ensures ranking { RankingOfLiveChains }
     ensures admissible { AdmissibleIsLive }
