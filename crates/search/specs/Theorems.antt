@@ -30,8 +30,8 @@ pub record CellByCell (s : Meaning) : Type 0 where
 abbrev pub TakenCellByCell : Type 0
 TakenCellByCell = (s : Meaning) → CellByCell s
 
--- Where no cell is raised a chain is live, and no chain is that one lowered. Where cell i is raised and none behind it, it is
--- live when the symbols before cell i are an allowed opening, and lowered it has the rank of cell i less one.
+-- Where no cell is raised the chain is live, and it has no lowered chain. Where cell i is raised and none behind it, the chain
+-- is live exactly when the symbols before cell i are an allowed opening, and its lowered chain has the rank of cell i less one.
 pub record ByLastRaised (g : Sets) (line : Cells) (c : Chain) : Type 0 where
   pub flat : ((j : ℕ) → slice_index c j ≡ 0) → (live g.allows line c ≡ true) × (lowered c ≡ None)
   pub raised : (i : ℕ) → 0 < slice_index c i → ((j : ℕ) → i < j → slice_index c j ≡ 0)

@@ -3,7 +3,7 @@ use Rattle.std.specs.Prelude.{◌≡◌, ℕ, ◌*◌, true, false, List, [], �
 use Rattle.pages.specs.declared.lines.Alternative.{Alternative}
 use Rattle.pages.specs.Shape.{Alternatives, Cells}
 use Rattle.pages.specs.Reading.{read_page}
-use Rattle.scores.specs.Scores.{sum_meaning}
+use Rattle.scores.specs.Scores.{sum_meaning, shares_meaning}
 use Rattle.positions.specs.declared.angles.Axis.TheVariants.{Latitude, Longitude}
 use Rattle.positions.specs.Angles.{angle_of}
 use Rattle.positions.specs.Positions.{reading}
@@ -36,6 +36,18 @@ two_cells = one_or_two ∷ one_or_two ∷ []
 
 abbrev pub everything : Sets
 everything = record { admits = λ t. true; allows = λ t. true }
+
+-- Two cells, 1 at 0 or 2 at 2, and 1 at 0, 2 at 1 or 3 at 2.
+abbrev pub two_and_three : Cells
+two_and_three = (alt 49 0 ∷ alt 50 2 ∷ []) ∷ (alt 49 0 ∷ alt 50 1 ∷ alt 51 2 ∷ []) ∷ []
+
+-- Two cells, 1 at 0 or 2 at 10, and 1 at 0 or 2 at 20.
+abbrev pub tenth_and_fifth : Cells
+tenth_and_fifth = (alt 49 0 ∷ alt 50 10 ∷ []) ∷ (alt 49 0 ∷ alt 50 20 ∷ []) ∷ []
+
+-- Three cells, 3 at 0, 9 at 0 or 0 at 1, and 0 at 0 or 1 at 1.
+abbrev pub thirty_nine_or_thirty : Cells
+thirty_nine_or_thirty = (alt 51 0 ∷ []) ∷ (alt 57 0 ∷ alt 48 1 ∷ []) ∷ (alt 48 0 ∷ alt 49 1 ∷ []) ∷ []
 
 -- A page of one line of eight cells: its bytes, and the cells of its line. 3 or 2, 0 or 8, then 0, 2, 2, 0, 2, and 3 or 4.
 abbrev pub page : List ℕ
@@ -142,6 +154,14 @@ pub record WorkedReadings : Type 0 where
   pub half_turn_west : (angle_sets Longitude).admits (codes "18000000W") ≡ false
   -- the texts of the two cells in their order
   pub two_cells_ranked : map (text two_cells) (live_chains sum_meaning everything two_cells) ≡ codes "11" ∷ codes "12" ∷ codes "21" ∷ codes "22" ∷ []
+  -- 13 and 21 both cost 2: the first cell decides, though 21 takes the second symbol once and 13 the third
+  pub first_cell_decides : map (text two_and_three) (live_chains sum_meaning everything two_and_three)
+      ≡ codes "11" ∷ codes "12" ∷ codes "13" ∷ codes "21" ∷ codes "22" ∷ codes "23" ∷ []
+  -- under Shares the larger total is better, 90 × 100 before 100 × 80
+  pub shares_ranked : map (text tenth_and_fifth) (live_chains shares_meaning everything tenth_and_fifth) ≡ codes "11" ∷ codes "21" ∷ codes "12" ∷ codes "22" ∷ []
+  pub shares_totals : map (total shares_meaning tenth_and_fifth) (live_chains shares_meaning everything tenth_and_fifth) ≡ 10_000 ∷ 9_000 ∷ 8_000 ∷ 7_200 ∷ []
+  -- 391 is not live, since 39, the symbols before its last raised cell, opens no date; 300 is, as 3 opens one, and 301, as 30 does
+  pub live_by_opening : map (text thirty_nine_or_thirty) (live_chains sum_meaning date_sets thirty_nine_or_thirty) ≡ codes "390" ∷ codes "300" ∷ codes "301" ∷ []
   -- the page is read as the line; the texts of its live chains in their order; the total of the first that is a date
   pub page_read : read_page page ≡ Ok (line ∷ [])
   pub line_ranked : map (text line) (live_chains sum_meaning date_sets line)

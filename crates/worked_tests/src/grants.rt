@@ -31,6 +31,10 @@ fn most_granted(rt: HostRuntime) -> Result<(), Fail> {
         (8, 512, false),
         (24, 170, true),
         (24, 171, false),
+        (15, 273, true),
+        (15, 274, false),
+        (1, 4095, true),
+        (1, 4096, false),
     ];
     for (cells, chains, granted) in cases {
         assert_eq!(rt;
