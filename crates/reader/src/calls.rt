@@ -2,6 +2,7 @@
 ghost use Rattle.std.specs.Prelude.{◌≡◌, IfOk, OnErr};
 ghost use Rattle.pages.specs.Answers.{line_of};
 ghost use Rattle.pages.specs.Shape.{cell_of};
+ghost use Rattle.bench.specs.Held.{in_use};
 ghost use Rattle.reader.specs.Views.{view, unloaded, Kept, Agrees};
 ghost use Rattle.reader.specs.Calls.{light, takes, loading, FromPage, answered, loaded_into, granting, granted_more, next_of, Reports, writing, ReadsBack};
 
@@ -156,9 +157,11 @@ impl<G: Grammar + Drop, S: Score + Drop> Reader<G, S> {
         }
     }
 
+    // The figures of the line, and the places of the bench that are in use.
     pub fn report(&self) -> Report
         requires agrees { Agrees S.meaning (G.meaning self.now.grammar) self.now }
-        ensures { Reports (view self.now) result }
+        ensures told { Reports (view self.now) result }
+        ensures places { result.places ≡ in_use self.now.bench }
     {
         Report {
             cells: self.line.as_ref().map_or(0, |line| line.cells().len()),

@@ -16,7 +16,7 @@ put_row-requires c =
     let next = c.first_next-outcome in
     let r : Row = record { number = n; reading = c.reading_word.result; total = c.last_total.result; looked = c.report.result.looked; outcome = c.outcome_word.result } in
     let is : row_words r ≡ row n l =
-    row_told l _ next.result next.new.place (view next.new.reader) r next.ensures.answer next.ensures.state next.ensures.place c.reading_word.ensures c.last_total.ensures c.report.ensures.looked c.outcome_word.ensures in
+    row_told l _ next.result next.new.place (view next.new.reader) r next.ensures.answer next.ensures.state next.ensures.place c.reading_word.ensures c.last_total.ensures c.report.ensures.told.looked c.outcome_word.ensures in
     let accepted = accepted_exactly page (λ i. (c.type_inv.page i).fits) in
     let few = (well page accepted n c.requires.there).few in
     let short = row_short l n (omega (arith, few, c.requires.there)) (line_well page accepted n c.requires.there).few in
@@ -28,4 +28,4 @@ returns-clause-row c =
     let r : Row = record { number = c.args.number; reading = c.reading_word.result; total = c.last_total.result; looked = c.report.result.looked; outcome = c.outcome_word.result } in
     c.put_row.ensures
     ∙ ap (λ words. c.args.list.now.items ++ words)
-    (row_told (line_at c.args.page.now c.args.number) _ next.result next.new.place (view next.new.reader) r next.ensures.answer next.ensures.state next.ensures.place c.reading_word.ensures c.last_total.ensures c.report.ensures.looked c.outcome_word.ensures)
+    (row_told (line_at c.args.page.now c.args.number) _ next.result next.new.place (view next.new.reader) r next.ensures.answer next.ensures.state next.ensures.place c.reading_word.ensures c.last_total.ensures c.report.ensures.told.looked c.outcome_word.ensures)

@@ -39,4 +39,4 @@ returns-in_ok-outcome-in-Next-clause-made g c =
     told.answer told.state told.place (ap Ok c.from.ensures)
 
 pub returns-in-Report-clause-made : goal.returns-in-Report-clause-made
-returns-in-Report-clause-made g c = made_as _ _ _ _ c.in-Report.is refl refl refl (report_makes _ _ _ _ c.report.result _ c.report.ensures)
+returns-in-Report-clause-made g c = made_as _ _ _ _ c.in-Report.is refl refl refl (report_makes _ _ _ _ c.report.result _ c.report.ensures.told)

@@ -8,8 +8,8 @@ use Rattle.reader.specs.Calls.{cells_of, PlacesInUse}
 use Rattle.reader.proofs.Readers.{counted, places_used}
 use Rattle.reader.proofs.calls.Reader.report.Goals as goal
 
-pub returns : goal.returns
-returns g c =
+pub returns-clause-told : goal.returns-clause-told
+returns-clause-told g c =
     let r = c.args.self.now in
     record {
       cells = counted c.as_ref.result c.map_or.result (λ is. MatchOption-at_none _ _ is c.map_or.ensures) (λ line is. let k = MatchOption-at_some _ _ line is c.map_or.ensures in search (rules, as_many))
