@@ -1,9 +1,10 @@
 -- Why no call is refused on a line of a good page, and what the next comes to. Assumes nothing.
-use Rattle.std.proofs.Common.{◌≡◌, ℕ, ◌+◌, ◌*◌, ◌<◌, ◌≤◌, true, leb, ltb, List, [], ◌∷◌, length, get_or, Some, None, Ok, Err, Option, Result, refl, ap, ◌∙◌, arith}
+use Rattle.std.proofs.Common.{◌≡◌, ℕ, ◌+◌, ◌*◌, ◌<◌, ◌≤◌, true, leb, ltb, List, [], ◌∷◌, ◌++◌, length, get_or, take, Some, None, Ok, Err, Option, Result, refl, ap, ◌∙◌, arith}
 use Rattle.std.specs.List.{slice_get, AllByRecursion}
 use Rattle.std.specs.Result.{IsOk}
 use Rattle.std.proofs.lemmas.Grind.{common_steps}
 use Rattle.std.proofs.lemmas.Option.{gets}
+use Rattle.std.proofs.lemmas.List.{take_more}
 use Rattle.std.proofs.ByRecursion.{All-get_or}
 use Rattle.std.proofs.lemmas.Bool.{and_from, le-leb, le-ltb, cond-true, cond-false}
 use Rattle.pages.specs.declared.faults.PageFault.{PageFault}
@@ -19,7 +20,7 @@ use Rattle.reader.specs.declared.refusals.Refusal.TheVariants as refusal
 use Rattle.reader.specs.Views.{View, loaded}
 use Rattle.reader.specs.Calls.{light, all_light, takes, taken_by, loading, loaded_into, granting, granted_more, refuse_next, next_came, next_of}
 use Rattle.lists.specs.Lists.{live_chains, reached}
-use Rattle.lists.specs.Calls.{lines_of, lines_in, line_at, granted, came}
+use Rattle.lists.specs.Calls.{lines_of, lines_in, line_at, granted, came, seen_after}
 
 -- the score takes every line
 all_light_cell : (c : Alternatives) → AllByRecursion InRange c → light 65535 c ≡ true
@@ -88,3 +89,19 @@ module _ (page : List ℕ) (accepted : Accepted page) (n : ℕ) (h : n < length 
   next_comes place room e f =
       let few = (line_well page accepted n h).few in
       ap (λ v. next_of sum_meaning date_sets v place) (after_grant e f) ∙ comes (line_at page n) place (omega arith)
+
+-- what is then seen of the reader does not hang on the place
+pub came_state : (l : Cells) (p q : List ℕ) → (came l p).state ≡ (came l q).state
+came_state l p q = go (first_passing (admitted date_sets l) (reached l))
+  where
+    go : (o : Option (ℕ × Chain)) → (next_came sum_meaning l (granted l) p (length (live_chains l)) o).state ≡ (next_came sum_meaning l (granted l) q (length (live_chains l)) o).state
+    go None = refl
+    go (Some found) = refl
+
+seen_push : (v : View) (lines : Lines) (l : Cells) → seen_after v (lines ++ l ∷ []) ≡ (came l []).state
+seen_push v [] l = refl
+seen_push v (x ∷ lines) l = seen_push (came x []).state lines l
+
+-- with one line more
+pub seen_more : (v : View) (lines : Lines) (n : ℕ) → n < length lines → seen_after v (take (n + 1) lines) ≡ (came (get_or lines n []) []).state
+seen_more v lines n h = ap (seen_after v) (take_more lines n [] h) ∙ seen_push v (take n lines) (get_or lines n [])

@@ -46,6 +46,15 @@ granted l = record { line = Some l; granted = 170; looked = 0; handed = 0; last_
 abbrev pub came : Cells → List ℕ → Nexted
 came l place = next_came sum_meaning l (granted l) place (length (live_chains l)) (first_passing (admitted date_sets l) (reached l))
 
+-- what is seen of a reader once lines have been listed, one after another: the last of them is loaded, and its next has come
+abbrev pub seen_after : View → Lines → View
+seen_after v [] = v
+seen_after v (l ∷ more) = seen_after (came l []).state more
+
+-- and once a page was listed into a place: a place too short is refused, and a bad page has no lines
+abbrev pub seen_listed : View → List ℕ → List ℕ → View
+seen_listed v page place = cond (nat_lt (length place) 2048) v (seen_after v (lines_in page))
+
 -- the words of a row, from what the next answered and wrote, and from what is seen of the reader after it
 abbrev pub reading_word : Outcome → List ℕ → List ℕ
 reading_word (Found cells) place = take cells place

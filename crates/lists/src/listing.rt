@@ -1,12 +1,12 @@
 // Lists a page: the first next on each of its lines, or the page's refusal.
-ghost use Rattle.std.specs.Prelude.{◌≡◌, ◌+◌, ◌*◌, ◌<◌, ◌≤◌, ◌++◌, length, Ok, OnErr};
+ghost use Rattle.std.specs.Prelude.{◌≡◌, ◌+◌, ◌*◌, ◌<◌, ◌≤◌, ◌++◌, [], length, Ok, OnErr};
 ghost use Rattle.arrayvec.specs.ArrayVec.{array_vec_len};
 ghost use Rattle.pages.specs.Reading.{read_page};
 ghost use Rattle.scores.specs.Scores.{sum_meaning};
 ghost use Rattle.grammars.specs.Dates.{date_sets};
 ghost use Rattle.reader.specs.Views.{view, Kept, Agrees};
 ghost use Rattle.lists.specs.Lists.{row, rows, header, date_list};
-ghost use Rattle.lists.specs.Calls.{listing, counted, lines_in, line_at, came, reading_word, outcome_word, found_bytes};
+ghost use Rattle.lists.specs.Calls.{listing, counted, lines_in, line_at, came, seen_after, seen_listed, reading_word, outcome_word, found_bytes};
 
 use crate::rows::{List, MOST_BYTES, Row, list_refusal, put_header, put_row};
 use arrayvec::ArrayVec;
@@ -79,6 +79,7 @@ fn list_line(list: &mut List, reader: &mut Reader<Date, Sum>, page: &[u8], numbe
     requires there { number < length (lines_in page.now) }
     requires room { array_vec_len list.old + 49 ≤ 2048 }
     ensures row { list.new.items ≡ list.old.items ++ row number (line_at page.now number) }
+    ensures state { view reader.new ≡ (came (line_at page.now number) []).state }
     ensures agrees { Agrees sum_meaning date_sets reader.new }
     ensures kept { Kept reader.old reader.new }
 {
@@ -99,6 +100,7 @@ fn list_lines(reader: &mut Reader<Date, Sum>, page: &[u8], count: usize) -> List
     requires agrees { Agrees sum_meaning date_sets reader.old }
     requires counted { counted (read_page page.now) ≡ Ok count }
     ensures list { result.items ≡ header ++ rows 0 (lines_in page.now) }
+    ensures state { view reader.new ≡ seen_after (view reader.old) (lines_in page.now) }
     ensures agrees { Agrees sum_meaning date_sets reader.new }
     ensures kept { Kept reader.old reader.new }
 {
@@ -120,6 +122,7 @@ pub fn list_dates(
     ensures answer { result ≡ (listing page.now place.old).0 }
     ensures place { place.new ≡ (listing page.now place.old).1 }
     ensures short { length (date_list page.now) ≤ 2048 }
+    ensures state { view reader.new ≡ seen_listed (view reader.old) page.now place.old }
     ensures agrees { Agrees sum_meaning date_sets reader.new }
     ensures kept { Kept reader.old reader.new }
     ensures refused { OnErr result (reader.new ≡ reader.old) }

@@ -1,10 +1,10 @@
-use Rattle.std.proofs.Common.{◌≡◌, ◌++◌, length, ap, ◌∙◌, arith}
+use Rattle.std.proofs.Common.{◌≡◌, [], ◌++◌, length, ap, ◌∙◌, arith}
 use Rattle.pages.proofs.Round.{accepted_exactly}
 use Rattle.reader.specs.Views.{view}
 use Rattle.lists.specs.declared.rows.Row.{Row}
 use Rattle.lists.specs.Lists.{row}
 use Rattle.lists.specs.Calls.{line_at, row_words}
-use Rattle.lists.proofs.Answered.{well, line_well}
+use Rattle.lists.proofs.Answered.{well, line_well, came_state}
 use Rattle.lists.proofs.Printed.{row_told, row_short}
 use Rattle.lists.proofs.listing.list_line.Goals as goal
 
@@ -29,3 +29,6 @@ returns-clause-row c =
     c.put_row.ensures
     ∙ ap (λ words. c.args.list.now.items ++ words)
     (row_told (line_at c.args.page.now c.args.number) _ next.result next.new.place (view next.new.reader) r next.ensures.answer next.ensures.state next.ensures.place c.reading_word.ensures c.last_total.ensures c.report.ensures.told.looked c.outcome_word.ensures)
+
+pub returns-clause-state : goal.returns-clause-state
+returns-clause-state c = c.first_next-outcome.ensures.state ∙ came_state (line_at c.args.page.now c.args.number) _ []

@@ -3,8 +3,8 @@ use Rattle.std.proofs.lemmas.List.{take_all}
 use Rattle.pages.specs.Reading.{read_page}
 use Rattle.pages.proofs.Round.{accepted_exactly}
 use Rattle.lists.specs.Lists.{header, row, rows}
-use Rattle.lists.specs.Calls.{lines_in, line_at}
-use Rattle.lists.proofs.Answered.{well}
+use Rattle.lists.specs.Calls.{lines_in, line_at, seen_after}
+use Rattle.lists.proofs.Answered.{well, seen_more}
 use Rattle.lists.proofs.Counts.{all_counted}
 use Rattle.lists.proofs.Printed.{rows_none, rows_more, list_short}
 use Rattle.lists.proofs.listing.list_lines.Goals as goal
@@ -12,6 +12,7 @@ use Rattle.lists.proofs.listing.list_lines.Goals as goal
 pub loop-number-init : goal.loop-number-init
 loop-number-init c = record {
   list = c.put_header.ensures ∙ ap (λ items. items ++ header) c.new-list.ensures ∙ sym (ap (λ rest. header ++ rest) rows_none ∙ append-nil header);
+  state = refl;
   agrees = c.requires.agrees;
   kept = record { grammar = refl; score = refl };
 }
@@ -41,6 +42,7 @@ loop-number-preserved c =
           ∙ ap (λ items. items ++ row n (line_at page n)) c.loop-number.invariant.list
           ∙ append_assoc header (rows 0 (take n (lines_in page))) (row n (line_at page n))
           ∙ ap (λ rest. header ++ rest) (sym (rows_more (lines_in page) n there));
+      state = c.list_line.ensures.state ∙ sym (seen_more _ (lines_in page) n there);
       agrees = c.list_line.ensures.agrees;
       kept = record {
         grammar = c.list_line.ensures.kept.grammar ∙ c.loop-number.invariant.kept.grammar;
@@ -53,3 +55,9 @@ returns-clause-list c =
     let lines = lines_in c.args.page.now in
     let all : length lines ≤ c.loop-number.number = omega (arith, all_counted (read_page c.args.page.now) c.args.count c.requires.counted, c.loop-number-test.false) in
     c.loop-number.invariant.list ∙ ap (λ whole. header ++ rows 0 whole) (take_all c.loop-number.number lines all)
+
+pub returns-clause-state : goal.returns-clause-state
+returns-clause-state c =
+    let lines = lines_in c.args.page.now in
+    let all : length lines ≤ c.loop-number.number = omega (arith, all_counted (read_page c.args.page.now) c.args.count c.requires.counted, c.loop-number-test.false) in
+    c.loop-number.invariant.state ∙ ap (seen_after _) (take_all c.loop-number.number lines all)
