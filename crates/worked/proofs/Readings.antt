@@ -1,5 +1,5 @@
 -- The worked readings, by computing. Assumes nothing.
-use Rattle.std.proofs.Common.{◌≡◌, ℕ, List, Result, refl, subst, rules}
+use Rattle.std.proofs.Common.{◌≡◌, ℕ, ◌≤◌, Contains, List, [], ◌∷◌, map, length, get_or, take, Some, Ok, Option, Result, refl, sym, ap, ◌∙◌, subst, ⊎_elim, true≢false, rules, arith}
 use Rattle.pages.specs.Reading.{read_page, read_lines, read_line, read_cells, read_cell, read_alternatives}
 use Rattle.scores.specs.Scores.{Laws, sum_meaning}
 use Rattle.grammars.specs.Grammars.{Lawful}
@@ -9,11 +9,16 @@ use Rattle.reader.specs.Views.{unloaded}
 use Rattle.reader.specs.declared.refusals.Refusal.{Refusal}
 use Rattle.runs.specs.declared.rows.Call.{Call}
 use Rattle.runs.specs.declared.rows.Answer.{Answer}
-use Rattle.runs.specs.Runs.{Runs}
-use Rattle.runs.specs.Determined.{AlikeRows}
+use Rattle.search.specs.Chains.{Chain, ChainOf}
+use Rattle.search.proofs.Members.{Contains-first, Contains-rest, Contains-cons_cases, no_member}
+use Rattle.search.proofs.Ranking.{ranked}
+use Rattle.runs.specs.Runs.{live_chains, Runs}
+use Rattle.runs.specs.declared.rows.Answer.TheVariants as answer
+use Rattle.runs.specs.declared.rows.Row.{Row}
+use Rattle.runs.specs.Determined.{AlikeReport, AlikeAnswer, AlikeRows}
 use Rattle.std.specs.Fmt.{digits}
 use Rattle.lists.specs.Lists.{header, row, rows}
-use Rattle.worked.specs.Worked.{page, places, with_answers, ComesOut, WorkedReadings}
+use Rattle.worked.specs.Worked.{page, line, first_chain, second_chain, lowest_chain, places, with_answers, bare_answer, bare, ComesOut, WorkedReadings}
 use Rattle.worked.proofs.Played.{Play, play, every_run, one_run}
 
 -- the laws of Sum and of Date
@@ -27,12 +32,68 @@ date_lawful = record {
   begun = λ s n h. date_shorter s n (admitted_allowed s h);
 }
 
+-- alike rows are the same but for the places in use
+bare_same : (a b : Option (Result Answer Refusal)) → AlikeAnswer a b → bare_answer a ≡ bare_answer b
+bare_same a b alike = ⊎_elim
+    (λ e. ap bare_answer e)
+    (λ t.
+    let same : AlikeReport t.0 t.1 = t.4 in
+    ap bare_answer t.2
+    ∙ (λ i. Some (Ok (answer.Reported (record { cells = same.cells i; granted = same.granted i; looked = same.looked i; handed = same.handed i; places = 0 }))))
+    ∙ sym (ap bare_answer t.3))
+    alike
+
+bare_rows : (xs ys : List Row) → AlikeRows xs ys → map bare xs ≡ map bare ys
+bare_rows [] [] alike = refl
+bare_rows [] (y ∷ ys) alike = absurd alike
+bare_rows (x ∷ xs) [] alike = absurd alike
+bare_rows (x ∷ xs) (y ∷ ys) alike =
+    let first : bare x ≡ bare y = λ i. record { call = alike.0 i; answer = bare_same x.answer y.answer alike.1 i } in
+    let rest = bare_rows xs ys alike.2 in
+    λ i. first i ∷ rest i
+
 -- a play that is computed is what every run comes to
-comes_out : (calls : List Call) (answers : List (Result Answer Refusal)) (left : List ℕ) → play sum_meaning date_sets page unloaded places calls ≡ record { answers = answers; left = left } → ComesOut calls answers left
-comes_out calls answers left e = record {
+comes_out : (calls : List Call) (answers : List (Result Answer Refusal)) (left : List ℕ) → play sum_meaning date_sets page unloaded places calls ≡ record { answers = answers; left = left }
+    → map bare (with_answers calls answers) ≡ with_answers calls answers → ComesOut calls answers left
+comes_out calls answers left e told = record {
   there_is = λ rows same. subst (λ (p : Play). Runs sum_meaning date_sets page places rows (with_answers calls p.answers) p.left) e (one_run sum_meaning date_sets page sum_laws date_lawful places rows calls same);
-  every = λ rows rows' left' same r. subst (λ (p : Play). AlikeRows rows' (with_answers calls p.answers) × (left' ≡ p.left)) e (every_run sum_meaning date_sets page sum_laws date_lawful places rows rows' left' calls same r);
+  every = λ rows rows' left' same r.
+      let came = subst (λ (p : Play). AlikeRows rows' (with_answers calls p.answers) × (left' ≡ p.left)) e (every_run sum_meaning date_sets page sum_laws date_lawful places rows rows' left' calls same r) in
+      (bare_rows rows' (with_answers calls answers) came.0 ∙ told, came.1);
 }
+
+-- the six live chains; the first date stands third among them
+abbrev next_to_lowest : Chain
+next_to_lowest = 0 ∷ 1 ∷ 0 ∷ 0 ∷ 0 ∷ 0 ∷ 0 ∷ 0 ∷ []
+
+abbrev six : List Chain
+six = lowest_chain ∷ next_to_lowest ∷ first_chain ∷ second_chain ∷ (1 ∷ 1 ∷ 0 ∷ 0 ∷ 0 ∷ 0 ∷ 0 ∷ 0 ∷ []) ∷ (1 ∷ 1 ∷ 0 ∷ 0 ∷ 0 ∷ 0 ∷ 0 ∷ 1 ∷ []) ∷ []
+
+ranked_six : live_chains sum_meaning date_sets line ≡ six
+unfolding longest
+ranked_six = refl
+
+six_live : length (live_chains sum_meaning date_sets line) ≡ 6
+six_live = ap length ranked_six
+
+third_of_six : Contains (live_chains sum_meaning date_sets line) first_chain
+third_of_six = let long : length six ≡ 6 = refl in subst (λ cs. Contains cs first_chain) (sym ranked_six) (2, omega (arith, long), refl)
+
+third_of_five : Contains (take 5 (live_chains sum_meaning date_sets line)) first_chain
+third_of_five = let long : length (take 5 six) ≡ 5 = refl in subst (λ cs. Contains (take 5 cs) first_chain) (sym ranked_six) (2, omega (arith, long), refl)
+
+-- and it is not among the first two
+not_of_two : Contains (take 2 (live_chains sum_meaning date_sets line)) first_chain → ⊥
+not_of_two m = ⊎_elim
+    (λ (e : first_chain ≡ lowest_chain). let z : ◌≡◌ {A = ℕ} 1 0 = ap (λ c. get_or c 0 0) e in omega (arith, z))
+    (λ n. ⊎_elim
+    (λ (e : first_chain ≡ next_to_lowest). let z : ◌≡◌ {A = ℕ} 1 0 = ap (λ c. get_or c 0 0) e in omega (arith, z))
+    (no_member first_chain)
+    (Contains-cons_cases next_to_lowest [] first_chain n))
+    (Contains-cons_cases lowest_chain (next_to_lowest ∷ []) first_chain (subst (λ cs. Contains (take 2 cs) first_chain) ranked_six m))
+
+first_chain_of : ChainOf line first_chain
+first_chain_of = (((ranked sum_meaning sum_laws date_sets line).exactly_live first_chain).0 third_of_six).0
 
 pub worked_readings : WorkedReadings
 unfolding longest digits row rows header read_page read_lines read_line read_cells read_cell read_alternatives
@@ -56,11 +117,34 @@ worked_readings = record {
   line_ranked = refl;
   first_text = refl;
   first_total = refl;
-  granted_170 = comes_out _ _ _ refl;
-  watched_170 = comes_out _ _ _ refl;
-  granted_6 = comes_out _ _ _ refl;
-  watched_6 = comes_out _ _ _ refl;
-  granted_2 = comes_out _ _ _ refl;
+  granted_170 = comes_out _ _ _ refl refl;
+  watched_170 = comes_out _ _ _ refl refl;
+  granted_6 = comes_out _ _ _ refl refl;
+  watched_6 = comes_out _ _ _ refl refl;
+  granted_2 = comes_out _ _ _ refl refl;
+  granted_2_and_1 = comes_out _ _ _ refl refl;
+  loaded_again = comes_out _ _ _ refl refl;
+  parts_of_places = comes_out _ _ _ refl refl;
+  refused = comes_out _ _ _ refl refl;
+  second_before_first = λ x. ⊎_elim (λ (e : first_chain ≡ second_chain). let z : ◌≡◌ {A = ℕ} 0 1 = ap (λ c. get_or c 7 0) e in omega (arith, z)) (λ e. true≢false (sym e)) ((x.best_unseen line second_chain refl refl).2 first_chain (first_chain_of, refl) (no_member first_chain));
+  no_date = λ x. true≢false (sym (x.best_unseen line _ refl refl).0.1);
+  date_again = λ x. (x.best_unseen line first_chain refl refl).1 (Contains-first first_chain []);
+  date_behind = λ x. let t = x.stops_there line first_chain refl refl in omega (arith, t.1, t.2);
+  past_grant = λ x. omega (arith, x.never_above_grant);
+  past_end = λ x. omega (arith, x.never_past_end line refl, six_live);
+  finds_none = λ x. (x.found_exactly_when line refl tt).1 (first_chain, third_of_six, refl, no_member first_chain);
+  spent_early = λ x. omega (arith, ((x.spent_exactly_when line refl tt (λ f. f)).0 refl).1);
+  exhausted_early = λ x. omega (arith, (x.exhausted_exactly_when line refl tt (λ f. f)).0 refl, six_live);
+  date_kept_back = λ x. no_member first_chain ((x.first_looked_handed line refl first_chain).1 (third_of_five, refl));
+  date_made_up = λ x. not_of_two ((x.first_looked_handed line refl first_chain).0 (Contains-first first_chain [])).0;
+  report_looks = λ x. omega (arith, x.looks_only_in_next (λ n. n));
+  sum_takes = refl;
+  shares_take = refl;
+  shares_too_long = refl;
+  shares_too_dear = refl;
+  places_most = omega arith;
+  places_too_many = λ h. omega (arith, h);
+  places_without_line = λ h. omega (arith, h);
   page_listed = refl;
   refused_listed = refl;
   no_date_listed = refl;

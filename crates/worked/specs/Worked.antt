@@ -1,5 +1,9 @@
 -- Worked readings: what the definitions that the contracts cite come to, at values worked out by hand. Assumes nothing.
-use Rattle.std.specs.Prelude.{◌≡◌, ℕ, ◌*◌, true, false, List, [], ◌∷◌, ◌++◌, map, length, replicate, pos, neg_ℤ, Some, Ok, Result, codes}
+use Rattle.std.specs.Prelude.{◌≡◌, ℕ, ◌*◌, true, false, List, [], ◌∷◌, ◌++◌, map, length, replicate, pos, neg_ℤ, Some, None, Ok, Err, Option, Result, codes}
+use Rattle.pages.specs.declared.faults.AlternativeFault.TheVariants as alternative_fault
+use Rattle.pages.specs.declared.faults.CellFault.TheVariants as cell_fault
+use Rattle.pages.specs.declared.faults.LineFault.TheVariants as line_fault
+use Rattle.pages.specs.declared.faults.PageFault.TheVariants as page_fault
 use Rattle.pages.specs.declared.lines.Alternative.{Alternative}
 use Rattle.pages.specs.Shape.{Alternatives, Cells}
 use Rattle.pages.specs.Reading.{read_page}
@@ -14,13 +18,15 @@ use Rattle.search.specs.Chains.{Chain, text, total}
 use Rattle.reader.specs.declared.calls.Outcome.{Outcome}
 use Rattle.reader.specs.declared.calls.Outcome.TheVariants.{Found, Spent, Exhausted}
 use Rattle.reader.specs.declared.refusals.Refusal.{Refusal}
+use Rattle.reader.specs.declared.refusals.Refusal.TheVariants as refusal
+use Rattle.reader.specs.Calls.{takes, PlacesInUse}
 use Rattle.runs.specs.declared.rows.Call.{Call}
 use Rattle.runs.specs.declared.rows.Call.TheVariants as call
 use Rattle.runs.specs.declared.rows.Answer.{Answer}
 use Rattle.runs.specs.declared.rows.Answer.TheVariants as answer
 use Rattle.runs.specs.declared.rows.Row.{Row}
-use Rattle.runs.specs.Runs.{live_chains, Runs}
-use Rattle.runs.specs.Determined.{AlikeRows}
+use Rattle.runs.specs.Runs as law
+use Rattle.runs.specs.Runs.{Moment, moment, live_chains, Lawful, Runs}
 use Rattle.lists.specs.Lists.{row, date_list}
 
 -- a symbol at a penalty
@@ -79,19 +85,43 @@ line =
 abbrev pub first_chain : Chain
 first_chain = 1 ∷ 0 ∷ 0 ∷ 0 ∷ 0 ∷ 0 ∷ 0 ∷ 0 ∷ []
 
--- The calls: line 0 of the page, and a next into the n-th eight of the forty bytes that are lent for places.
+-- that of the one that comes next, and the chain in which no cell is raised
+abbrev pub second_chain : Chain
+second_chain = 1 ∷ 0 ∷ 0 ∷ 0 ∷ 0 ∷ 0 ∷ 0 ∷ 1 ∷ []
+
+abbrev pub lowest_chain : Chain
+lowest_chain = replicate 8 0
+
+-- The calls: a line of the page, line 0 of it, a line of its first 42 bytes, and a next into a part of the forty bytes that are
+-- lent for places, or into the n-th eight of them. In each of the forty is a full stop.
+abbrev pub load_number : ℕ → Call
+load_number n = call.Load (record { start = 0; length = length page }) n
+
 abbrev pub load_line : Call
-load_line = call.Load (record { start = 0; length = length page }) 0
+load_line = load_number 0
+
+abbrev pub load_cut : ℕ → Call
+load_cut n = call.Load (record { start = 0; length = 42 }) n
+
+abbrev pub next_at : ℕ → ℕ → Call
+next_at start length = call.Next (record { start = start; length = length })
 
 abbrev pub next_into : ℕ → Call
-next_into n = call.Next (record { start = n * 8; length = 8 })
+next_into n = next_at (n * 8) 8
+
+abbrev pub stops : ℕ → List ℕ
+stops n = replicate n 46
 
 abbrev pub places : List ℕ
-places = replicate 40 0
+places = stops 40
 
--- a report of the line, with so many granted, looked at and handed out; its places in use are compared with nothing
+-- a report, with so many cells, granted, looked at and handed out, and that of the line; 0 stands for the places in use, which are
+-- compared with nothing
+abbrev pub told_of : ℕ → ℕ → ℕ → ℕ → Result Answer Refusal
+told_of cells granted looked handed = Ok (answer.Reported (record { cells = cells; granted = granted; looked = looked; handed = handed; places = 0 }))
+
 abbrev pub told : ℕ → ℕ → ℕ → Result Answer Refusal
-told granted looked handed = Ok (answer.Reported (record { cells = 8; granted = granted; looked = looked; handed = handed; places = 0 }))
+told granted looked handed = told_of 8 granted looked handed
 
 -- what the other calls that are taken answer
 abbrev pub loaded : Result Answer Refusal
@@ -105,7 +135,11 @@ next outcome = Ok (answer.Next outcome)
 
 -- what remains in the places: the four readings in their order, and eight bytes as they were
 abbrev pub readings : List ℕ
-readings = codes "20022023" ++ (codes "20022024" ++ (codes "28022023" ++ (codes "28022024" ++ replicate 8 0)))
+readings = codes "20022023" ++ (codes "20022024" ++ (codes "28022023" ++ (codes "28022024" ++ stops 8)))
+
+-- the page of its first 42 bytes is refused: the last cell's last alternative, cell 7 of line 0, ends early
+abbrev pub cut_short : Refusal
+cut_short = refusal.Page (page_fault.Line (record { number = 0; fault = line_fault.Cell (record { number = 7; fault = cell_fault.Alternative (alternative_fault.Short 42) }) }))
 
 -- the rows of calls and their answers
 abbrev pub with_answers : List Call → List (Result Answer Refusal) → List Row
@@ -113,12 +147,36 @@ with_answers [] answers = []
 with_answers (c ∷ calls) [] = []
 with_answers (c ∷ calls) (a ∷ answers) = record { call = c; answer = Some a } ∷ with_answers calls answers
 
+-- rows with 0 for the places in use that their reports tell, which the law only bounds
+abbrev pub bare_told : Answer → Answer
+bare_told (answer.Reported r) = answer.Reported (record { cells = r.cells; granted = r.granted; looked = r.looked; handed = r.handed; places = 0 })
+bare_told a = a
+
+abbrev pub bare_result : Result Answer Refusal → Result Answer Refusal
+bare_result (Ok a) = Ok (bare_told a)
+bare_result (Err r) = Err r
+
+abbrev pub bare_answer : Option (Result Answer Refusal) → Option (Result Answer Refusal)
+bare_answer (Some r) = Some (bare_result r)
+bare_answer None = None
+
+abbrev pub bare : Row → Row
+bare row = record { call = row.call; answer = bare_answer row.answer }
+
 -- EVERY run of the calls over the page with Date and Sum, whatever stood in its rows, has these answers and leaves these
 -- places; and there is such a run.
 pub record ComesOut (calls : List Call) (answers : List (Result Answer Refusal)) (left : List ℕ) : Type 0 where
   pub there_is : (rows : List Row) → map (λ row. row.call) rows ≡ calls → Runs sum_meaning date_sets page places rows (with_answers calls answers) left
   pub every : (rows rows' : List Row) (left' : List ℕ) → map (λ row. row.call) rows ≡ calls → Runs sum_meaning date_sets page places rows rows' left'
-      → AlikeRows rows' (with_answers calls answers) × (left' ≡ left)
+      → (map bare rows' ≡ with_answers calls answers) × (left' ≡ left)
+
+-- a history: the line was loaded, and so many were granted
+abbrev pub begun : ℕ → List Moment
+begun n = moment (law.granted n) 0 ∷ moment (law.loaded line) 0 ∷ []
+
+-- the law lets no call leave this moment after this history
+abbrev pub ShutOut : List Moment → Moment → Type 0
+ShutOut h x = Lawful sum_meaning date_sets h x → ⊥
 
 -- five nexts with a report after the first and after the last; and with a report after each
 abbrev pub course : ℕ → List Call
@@ -176,6 +234,49 @@ pub record WorkedReadings : Type 0 where
   pub watched_6 : ComesOut (watched 6) (watched_answers 6) readings
   -- two are spent before the first reading
   pub granted_2 : ComesOut (load_line ∷ call.Grant 2 ∷ next_into 0 ∷ call.Report ∷ []) (loaded ∷ granted ∷ next Spent ∷ told 2 2 0 ∷ []) places
+  -- grants add up, and a next goes on where the last one stopped
+  pub granted_2_and_1 : ComesOut (load_line ∷ call.Grant 2 ∷ next_into 0 ∷ call.Grant 1 ∷ next_into 0 ∷ next_into 1 ∷ call.Report ∷ [])
+      (loaded ∷ granted ∷ next Spent ∷ granted ∷ next (Found 8) ∷ next Spent ∷ told 3 3 1 ∷ []) (codes "20022023" ++ stops 32)
+  -- a load begins anew
+  pub loaded_again : ComesOut (load_line ∷ call.Grant 4 ∷ next_into 0 ∷ next_into 1 ∷ load_line ∷ call.Report ∷ next_into 2 ∷ call.Grant 3 ∷ next_into 2 ∷ call.Report ∷ [])
+      (loaded ∷ granted ∷ next (Found 8) ∷ next (Found 8) ∷ loaded ∷ told 0 0 0 ∷ next Spent ∷ granted ∷ next (Found 8) ∷ told 3 3 1 ∷ [])
+      (codes "20022023" ++ (codes "20022024" ++ (codes "20022023" ++ stops 16)))
+  -- a place longer than the line's cells keeps its rest, and so do the bytes before it; one is cut off at the bytes' end
+  pub parts_of_places : ComesOut (load_line ∷ call.Grant 4 ∷ next_at 3 20 ∷ next_at 30 100 ∷ []) (loaded ∷ granted ∷ next (Found 8) ∷ next (Found 8) ∷ [])
+      (stops 3 ++ (codes "20022023" ++ (stops 19 ++ (codes "20022024" ++ stops 2))))
+  -- what is refused, by the first condition that fails; nothing is changed by it
+  pub refused : ComesOut
+      (call.Grant 0 ∷ next_at 0 0 ∷ call.Report ∷ load_cut 1 ∷ load_number 1 ∷ load_line ∷ load_cut 0 ∷ call.Grant 0 ∷ call.Grant 512 ∷ call.Grant 511 ∷ call.Grant 1
+      ∷ next_at 0 7 ∷ next_at 33 100 ∷ next_at 41 8 ∷ call.Report ∷ [])
+      (Err refusal.NoLine ∷ Err refusal.NoLine ∷ told_of 0 0 0 0 ∷ Err cut_short ∷ Err refusal.LineNumber ∷ loaded ∷ Err cut_short ∷ Err refusal.Grant ∷ Err refusal.Grant ∷ granted ∷ Err refusal.Grant
+      ∷ Err refusal.Place ∷ Err refusal.Place ∷ Err refusal.Place ∷ told 511 0 0 ∷ [])
+      places
+  -- What the law shuts out. With six granted: the second date before the first; what is no date; the first date a second time, or one that
+  -- stands before those looked at
+  pub second_before_first : ShutOut (begun 6) (moment (law.found second_chain) 4)
+  pub no_date : ShutOut (begun 6) (moment (law.found lowest_chain) 1)
+  pub date_again : ShutOut (moment (law.found first_chain) 2 ∷ begun 6) (moment (law.found first_chain) 3)
+  pub date_behind : ShutOut (moment law.spent 5 ∷ begun 6) (moment (law.found first_chain) 3)
+  -- three looked at with two granted; seven, where six chains are live
+  pub past_grant : ShutOut (begun 2) (moment (law.found first_chain) 3)
+  pub past_end : ShutOut (begun 170) (moment law.exhausted 7)
+  -- no reading found among all six; spent with two looked at of six granted; exhausted, with four chains left
+  pub finds_none : ShutOut (begun 6) (moment law.exhausted 6)
+  pub spent_early : ShutOut (begun 6) (moment law.spent 2)
+  pub exhausted_early : ShutOut (begun 6) (moment law.exhausted 2)
+  -- five looked at, and none handed out; one handed out that was not looked at; a report that looks at a chain
+  pub date_kept_back : ShutOut (moment law.refused 5 ∷ begun 6) (moment law.reported 5)
+  pub date_made_up : ShutOut (moment (law.found first_chain) 2 ∷ begun 6) (moment law.reported 2)
+  pub report_looks : ShutOut (begun 6) (moment law.reported 1)
+  -- a line that a score takes is at its limit, one past it is not taken
+  pub sum_takes : takes sum_meaning (replicate 24 (alt 49 65_535 ∷ [])) ≡ true
+  pub shares_take : takes shares_meaning (replicate 9 (alt 49 98 ∷ alt 50 99 ∷ [])) ≡ true
+  pub shares_too_long : takes shares_meaning (replicate 10 (alt 49 0 ∷ [])) ≡ false
+  pub shares_too_dear : takes shares_meaning ((alt 49 98 ∷ alt 50 100 ∷ []) ∷ []) ≡ false
+  -- with three of the line looked at a report may tell of 22 places in use, and not of 23; without a line of none
+  pub places_most : PlacesInUse (Some line) 3 22
+  pub places_too_many : PlacesInUse (Some line) 3 23 → ⊥
+  pub places_without_line : PlacesInUse None 3 1 → ⊥
   -- the list of the page, that of a page without lines, and the row of a line that is no date
   pub page_listed : date_list page ≡ codes "line reading total looked outcome\n0 20022023 5 3 found\n"
   pub refused_listed : date_list (0x00 ∷ []) ≡ codes "refused 2 at 0\n"
