@@ -13,6 +13,9 @@ const TEN_CELLS: &[u8; 42] =
 // One cell: 1 at 99 or 2 at 100.
 const DEAR_CELL: &[u8; 9] = b"\x01\x01\x021\0\x632\0\x64";
 
+// One cell: 1 at 98 or 2 at 99.
+const CHEAP_CELL: &[u8; 9] = b"\x01\x01\x021\0\x622\0\x63";
+
 // Without a line grant, next and nothing else are refused, with 8 before all else.
 #[test]
 fn before_a_load(rt: HostRuntime) -> Result<(), Fail> {
@@ -63,6 +66,8 @@ fn highest_penalty(rt: HostRuntime) -> Result<(), Fail> {
     let mut rows = [load(0)];
     run(rt.alloc(), Date, Shares, DEAR_CELL, &mut places, &mut rows)?;
     refused(&rt, &rows[0], 7)?;
+    run(rt.alloc(), Date, Shares, CHEAP_CELL, &mut places, &mut rows)?;
+    answered(&rt, &rows[0], Answer::Loaded);
     run(rt.alloc(), Date, Sum, DEAR_CELL, &mut places, &mut rows)?;
     answered(&rt, &rows[0], Answer::Loaded);
     Ok(())
@@ -119,4 +124,24 @@ fn loading_again(rt: HostRuntime) -> Result<(), Fail> {
     found(&rt, &rows[7], &places, b"20022023");
     answered(&rt, &rows[8], Answer::Next(Outcome::Spent));
     reported(&rt, &rows[9], 8, 3, 3, 1)
+}
+
+// A second grant adds to the first, and the next goes on; of a place longer than the line only the first bytes are written.
+#[test]
+fn granting_again(rt: HostRuntime) -> Result<(), Fail> {
+    let mut places = [b'.'; 20];
+    let mut rows = [
+        load(0),
+        grant(2),
+        next(3, 12),
+        grant(1),
+        next(3, 12),
+        report(),
+    ];
+    run(rt.alloc(), Date, Sum, DATE_PAGE, &mut places, &mut rows)?;
+    answered(&rt, &rows[2], Answer::Next(Outcome::Spent));
+    found(&rt, &rows[4], &places[3..], b"20022023");
+    reported(&rt, &rows[5], 8, 3, 3, 1)?;
+    assert!(rt; &places == b"...20022023.........", "the rest is left");
+    Ok(())
 }
