@@ -1,1 +1,4 @@
 pub mod Lines
+pub mod Blanks
+pub mod Lists
+pub mod Settings

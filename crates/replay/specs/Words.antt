@@ -15,6 +15,9 @@ use Rattle.runs.specs.declared.rows.Answer.{Answer}
 use Rattle.runs.specs.declared.rows.Answer.TheVariants.{Loaded, Granted, Next, Reported}
 use Rattle.replay.specs.declared.script.CommandFault.{CommandFault}
 use Rattle.replay.specs.declared.script.CommandFault.TheVariants as fault
+use Rattle.descriptions.specs.Words.{fault_words}
+use Rattle.replay.specs.declared.setting.SettingFault.{SettingFault}
+use Rattle.replay.specs.declared.setting.SettingFault.TheVariants.{Corner, Arguments}
 
 -- what a line of a script is expected to be
 unfoldable pub command_fault_words : CommandFault → List ℕ
@@ -23,6 +26,11 @@ command_fault_words fault.Grant = codes "a grant is written grant N, with N a wh
 command_fault_words fault.Next = codes "a next is written next, and nothing behind it"
 command_fault_words fault.Report = codes "a report is written report, and nothing behind it"
 command_fault_words fault.Call = codes "a call is written load FILE LINE, grant N, next or report"
+
+-- why arguments ask for no setting
+unfoldable pub setting_fault_words : SettingFault → List ℕ
+setting_fault_words (Corner f) = fault_words f
+setting_fault_words Arguments = codes "the arguments are [sheet SOUTHWEST NORTHEAST] [shares], a corner as 4900000N00600000W"
 
 -- why a call was refused, of a bad page by the bytes of the page
 abbrev pub reason_words : List ℕ → Refusal → List ℕ

@@ -24,12 +24,12 @@ fn setting_from_arguments(rt: &HostRuntime) -> anyhow::Result<Setting> {
         .iter()
         .map(|word| word.as_str())
         .collect(rt.alloc())?;
-    setting_of(words.as_slice())
+    Ok(setting_of(words.as_slice())?)
 }
 
 // A file is read anew for each load of it, which is simplest.
 fn add_line<'a>(rt: &HostRuntime, play: &mut Play<'a>, text: &'a str) -> anyhow::Result<()> {
-    match read_command(rt.alloc(), text)? {
+    match read_command(rt.alloc(), text)?? {
         Command::Load { file, number } => {
             let mut page = File::open(rt, file).context("cannot open the file")?;
             play.load(text, &mut page, number)
@@ -52,7 +52,7 @@ fn replay(rt: &HostRuntime) -> anyhow::Result<String> {
         .context("cannot read the script")?;
     let mut play = Play::new(rt.alloc());
     for (number, text) in (1usize..).zip(script.lines()) {
-        let text = text.trim();
+        let text = text.trim_ascii();
         if !text.is_empty() && !text.starts_with('#') {
             add_line(rt, &mut play, text).context(format_args!("line {number}, {text}"))?;
         }

@@ -2,7 +2,7 @@
 ghost use Rattle.std.specs.Prelude.{◌≡◌, ℕ, List, ◌++◌, length, replicate, IfOk, OnOk, MatchResult, string_bytes};
 ghost use Rattle.runs.specs.declared.rows.Call.TheVariants as Calls;
 ghost use Rattle.runs.specs.Runs.{Runs};
-ghost use Rattle.replay.specs.Plays.{Added, behind};
+ghost use Rattle.replay.specs.Plays.{Fresh, Added, behind};
 ghost use Rattle.replay.specs.Settings.{meaning_of, sets_of};
 ghost use Rattle.replay.specs.Words.{call_lines};
 
@@ -24,7 +24,9 @@ pub struct Play<'a> {
 }
 
 impl<'a> Play<'a> {
-    pub fn new(heap: Global) -> Play<'a> {
+    pub fn new(heap: Global) -> Play<'a>
+        ensures { Fresh result }
+    {
         Play {
             texts: Vec::new(heap),
             rows: Vec::new(heap),

@@ -1,10 +1,10 @@
 // The lines of a script: a call to a line, its words parted by blanks.
-ghost use Rattle.std.specs.Prelude.{◌≡◌, Some, map, IfOk, OnErr};
+ghost use Rattle.std.specs.Prelude.{◌≡◌, Some, map, IfOk, MatchOption};
 ghost use Rattle.replay.specs.declared.script.Command.{Command};
-ghost use Rattle.replay.specs.Scripts.{IsCall};
+ghost use Rattle.replay.specs.Scripts.{IsCall, IsFault, IsRead, words_of};
 ghost use Rattle.replay.specs.Words.{command_fault_words};
 
-use std::alloc::Global;
+use std::alloc::{AllocError, Global};
 use std::error::Error;
 use std::fmt;
 
@@ -56,31 +56,58 @@ impl fmt::Display for CommandFault {
 impl Error for CommandFault {}
 
 // The call that the words are, if they are one.
-pub fn command_of<'a>(words: &[&'a str]) -> Result<Command<'a>, CommandFault>
-    ensures call { IfOk result (λ c. IsCall (map (λ w. w.now) words.now) c) }
-    ensures fault { OnErr result ((c : Command) → IsCall (map (λ w. w.now) words.now) c → ⊥) }
+fn call_of<'a>(words: &[&'a str]) -> Option<Command<'a>>
+    ensures { MatchOption result ((c : Command) → IsCall (map (λ w. w.now) words.now) c → ⊥) (IsCall (map (λ w. w.now) words.now)) }
 {
     match words {
         ["load", file, number] => {
-            let number = number.parse::<usize>().map_err(|_| CommandFault::Load)?;
-            Ok(Command::Load { file, number })
+            let number = number.parse::<usize>().ok()?;
+            Some(Command::Load { file, number })
         }
         ["grant", chains] => {
-            let chains = chains.parse::<usize>().map_err(|_| CommandFault::Grant)?;
-            Ok(Command::Grant { chains })
+            let chains = chains.parse::<usize>().ok()?;
+            Some(Command::Grant { chains })
         }
-        ["next"] => Ok(Command::Next),
-        ["report"] => Ok(Command::Report),
-        ["load", ..] => Err(CommandFault::Load),
-        ["grant", ..] => Err(CommandFault::Grant),
-        ["next", ..] => Err(CommandFault::Next),
-        ["report", ..] => Err(CommandFault::Report),
-        _ => Err(CommandFault::Call),
+        ["next"] => Some(Command::Next),
+        ["report"] => Some(Command::Report),
+        _ => None,
     }
 }
 
-// The call of a line. Its words are collected first, so memory can be wanting.
-pub fn read_command(heap: Global, text: &str) -> anyhow::Result<Command<'_>> {
-    let words: Vec<&str> = text.split_whitespace().collect(heap)?;
-    Ok(command_of(words.as_slice())?)
+// What is wrong with words that are no call, by the first of them.
+fn fault_of(words: &[&str]) -> CommandFault
+    ensures { IsFault (map (λ w. w.now) words.now) result }
+{
+    match words {
+        ["load", ..] => CommandFault::Load,
+        ["grant", ..] => CommandFault::Grant,
+        ["next", ..] => CommandFault::Next,
+        ["report", ..] => CommandFault::Report,
+        _ => CommandFault::Call,
+    }
+}
+
+// The call that the words are, or why they are none.
+fn command_of<'a>(words: &[&'a str]) -> Result<Command<'a>, CommandFault>
+    ensures { IsRead (map (λ w. w.now) words.now) result }
+{
+    call_of(words).ok_or_else(|| fault_of(words))
+}
+
+// The words of a line, which blanks part.
+fn words_of(heap: Global, text: &str) -> Result<Vec<&str>, AllocError>
+    ensures { IfOk result (λ ws. map (λ w. w.now) ws.items ≡ words_of text.now) }
+{
+    text.split_ascii_whitespace().collect(heap)
+}
+
+// The call of a line, or why the line is none. Its words are collected first, so memory can be wanting.
+pub fn read_command(
+    heap: Global,
+    text: &str,
+) -> Result<Result<Command<'_>, CommandFault>, AllocError>
+    ensures { IfOk result (IsRead (words_of text.now)) }
+{
+    let words = words_of(heap, text)?;
+    Ok(command_of(words.as_slice()))
 }

@@ -93,7 +93,7 @@ fn calls_are_read(rt: HostRuntime) -> Result<(), Fail> {
         ("report", Command::Report),
     ];
     for (text, command) in cases {
-        assert_eq!(rt; read_command(rt.alloc(), text)?, command, "{text}");
+        assert_eq!(rt; read_command(rt.alloc(), text)?, Ok(command), "{text}");
     }
     Ok(())
 }
@@ -113,14 +113,7 @@ fn bad_lines_are_refused(rt: HostRuntime) -> Result<(), Fail> {
         ("", CommandFault::Call),
     ];
     for (text, fault) in cases {
-        let Err(error) = read_command(rt.alloc(), text) else {
-            return Err(Fail::new("a bad line was read"));
-        };
-        assert_eq!(rt;
-            error.to_string(rt.alloc())?.as_str(),
-            fault.explanation(),
-            "{text}"
-        );
+        assert_eq!(rt; read_command(rt.alloc(), text)?, Err(fault), "{text}");
     }
     Ok(())
 }
