@@ -4,5 +4,5 @@
 mod listing;
 mod rows;
 
-pub use listing::list_dates;
+pub use listing::{count_lines, list_dates};
 pub use rows::MOST_BYTES;

@@ -19,7 +19,7 @@ use scores::Sum;
 const GRANTED: usize = 170;
 
 // Judges the whole page, and counts its lines.
-fn count_lines(page: &[u8]) -> Result<usize, PageFault>
+pub fn count_lines(page: &[u8]) -> Result<usize, PageFault>
     ensures { result ≡ counted (read_page page.now) }
 {
     let mut count = 0;

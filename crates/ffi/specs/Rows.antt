@@ -1,0 +1,71 @@
+-- The rows of a run: which call a row asks for, and how what came of it is told, in the numbers of include/markbook.h. Assumes nothing.
+use Rattle.std.specs.Prelude.{ℕ, Bool, cond, ◌&&◌, List, [], ◌∷◌, Some, None, Ok, Err, Option, Result, ◌==◌, nat_le}
+use Rattle.pages.specs.Faults.{page_returns, page_line, page_cell}
+use Rattle.reader.specs.declared.calls.Outcome.{Outcome}
+use Rattle.reader.specs.declared.calls.Outcome.TheVariants.{Found, Spent, Exhausted}
+use Rattle.reader.specs.declared.calls.Report.{Report}
+use Rattle.reader.specs.declared.refusals.Refusal.{Refusal}
+use Rattle.reader.specs.declared.refusals.Refusal.TheVariants.{Page, Score, NoLine, Grant, Place, LineNumber}
+use Rattle.runs.specs.declared.rows.Call.{Call}
+use Rattle.runs.specs.declared.rows.Call.TheVariants as call
+use Rattle.runs.specs.declared.rows.Answer.{Answer}
+use Rattle.runs.specs.declared.rows.Answer.TheVariants as answer
+use Rattle.runs.specs.declared.rows.Row as inner
+use Rattle.ffi.specs.declared.rows.Asked.{Asked}
+use Rattle.ffi.specs.declared.rows.Came.{Came}
+use Rattle.ffi.specs.declared.rows.Row.{Row}
+use Rattle.ffi.specs.Pages.{none, or_none}
+
+-- there is a call of the number: 1 load, 2 grant, 3 next, 4 report
+abbrev pub is_call : Asked → Bool
+is_call a = nat_le 1 a.call && nat_le a.call 4
+
+-- the call of the number; no other number is run
+abbrev pub call_of : Asked → Call
+call_of a =
+    cond (a.call == 1) (call.Load (record { start = a.start; length = a.length }) a.number)
+    (cond (a.call == 2) (call.Grant a.number)
+    (cond (a.call == 3) (call.Next (record { start = a.start; length = a.length }))
+    call.Report))
+
+-- the row that is run, not made yet
+abbrev pub row_of : Asked → inner.Row
+row_of a = record { call = call_of a; answer = None }
+
+-- the outcome of the number, and nothing else
+abbrev pub only : ℕ → Came
+only n = record { outcome = n; refused = 0; place = none; line = none; cell = none; written = 0; cells = 0; granted = 0; looked = 0; handed = 0; places = 0 }
+
+-- 3 found, with the number of bytes written, 4 spent, 5 exhausted
+abbrev pub next_came : Outcome → Came
+next_came (Found n) = record (only 3) { written = n }
+next_came Spent = only 4
+next_came Exhausted = only 5
+
+-- 6 reported
+abbrev pub report_came : Report → Came
+report_came r = record (only 6) { cells = r.cells; granted = r.granted; looked = r.looked; handed = r.handed; places = r.places }
+
+-- 7 refused, with the number of the refusal, and of a bad page the byte place, the line and the cell of its fault
+abbrev pub refusal_came : Refusal → Came
+refusal_came (Page f) = record (only 7) { refused = (page_returns f).number; place = (page_returns f).place; line = or_none (page_line f); cell = or_none (page_cell f) }
+refusal_came Score = record (only 7) { refused = 7 }
+refusal_came NoLine = record (only 7) { refused = 8 }
+refusal_came Grant = record (only 7) { refused = 9 }
+refusal_came Place = record (only 7) { refused = 10 }
+refusal_came LineNumber = record (only 7) { refused = 13 }
+
+-- 0 not made, 1 loaded, 2 granted
+abbrev pub came_of : Option (Result Answer Refusal) → Came
+came_of None = only 0
+came_of (Some (Ok answer.Loaded)) = only 1
+came_of (Some (Ok answer.Granted)) = only 2
+came_of (Some (Ok (answer.Next o))) = next_came o
+came_of (Some (Ok (answer.Reported r))) = report_came r
+came_of (Some (Err r)) = refusal_came r
+
+-- the rows after a run: what is asked stays, and what came of each is told
+abbrev pub told : List Row → List inner.Row → List Row
+told [] made = []
+told (r ∷ rows) [] = r ∷ rows
+told (r ∷ rows) (m ∷ made) = record { asked = r.asked; came = came_of m.answer } ∷ told rows made

@@ -1,0 +1,45 @@
+// Judges a page.
+ghost use Rattle.std.specs.Prelude.{◌≡◌};
+ghost use Rattle.pages.specs.Reading.{read_page};
+ghost use Rattle.ffi.specs.Pages.{page_answer, checked_of};
+
+use crate::answers::{DONE, NONE};
+use lists::count_lines;
+
+// What is said of a page.
+#[repr(C)]
+#[derive(Clone, Copy)]
+pub struct Checked {
+    pub lines: usize,
+    pub place: usize,
+    pub line: usize,
+    pub cell: usize,
+}
+
+// Judges a page, and says what is wrong with it and where.
+#[unsafe(no_mangle)]
+pub extern "C" fn markbook_check_page(page: &[u8], checked: &mut Checked) -> u8
+    ensures answer { result ≡ page_answer (read_page page.now) }
+    ensures checked { checked.new ≡ checked_of (read_page page.now) }
+{
+    match count_lines(page) {
+        Ok(lines) => {
+            *checked = Checked {
+                lines,
+                place: NONE,
+                line: NONE,
+                cell: NONE,
+            };
+            DONE
+        }
+        Err(fault) => {
+            *checked = Checked {
+                lines: 0,
+                place: fault.place(),
+                line: fault.line().unwrap_or(NONE),
+                cell: fault.cell().unwrap_or(NONE),
+            };
+            fault.number()
+        }
+    }
+}
