@@ -1,2 +1,3 @@
 mod Played
 mod Readings
+mod Texts
