@@ -1,6 +1,6 @@
 -- Worked texts: what the definitions of angles, sheets, marks, scores, refusals and grants come to at values worked out by hand,
 -- above all at their edges. Assumes nothing.
-use Rattle.std.specs.Prelude.{◌≡◌, ℕ, ◌+◌, true, false, Bool, List, [], ◌∷◌, ◌++◌, map, length, replicate, pos, neg_ℤ, Some, Ok, Err, codes}
+use Rattle.std.specs.Prelude.{◌≡◌, ℕ, true, false, Bool, List, [], ◌∷◌, map, replicate, pos, neg_ℤ, Some, Ok, Err, codes}
 use Rattle.positions.specs.declared.angles.Axis.TheVariants.{Latitude, Longitude}
 use Rattle.positions.specs.Angles.{angle_of}
 use Rattle.grammars.specs.declared.Refusal.TheVariants.{Table}
@@ -9,7 +9,7 @@ use Rattle.grammars.specs.Grammars.{Sets, then_by}
 use Rattle.grammars.specs.Angles.{angle_sets}
 use Rattle.grammars.specs.Sheets.{sheet_sets, checking}
 use Rattle.marks.specs.Marks.{mark_bytes, plotted}
-use Rattle.scores.specs.Scores.{Meaning, sum_meaning, shares_meaning, stepped}
+use Rattle.scores.specs.Scores.{sum_meaning, shares_meaning, stepped}
 use Rattle.pages.specs.Shape.{Cells}
 use Rattle.reader.specs.declared.refusals.Refusal.TheVariants as refusal
 use Rattle.reader.specs.Calls.{granting_to}
