@@ -38,7 +38,7 @@ enum {
     MARKBOOK_POSITION = 11,    /* the text or the pair is no position */
     MARKBOOK_TABLE = 12,       /* the limits of the sheet are out of order or out of range */
     MARKBOOK_LINE_NUMBER = 13, /* load: the page has no line of this number */
-    MARKBOOK_MEMORY = 100,     /* malloc gave no memory */
+    MARKBOOK_MEMORY = 100,     /* memory was wanting */
     MARKBOOK_UNKNOWN = 101     /* a grammar, a score or a call has a number that is none of those below */
 };
 
@@ -60,8 +60,8 @@ uint8_t markbook_check_page(const uint8_t *page, size_t page_length, markbook_ch
 /* Writes the list of a page from the place's start: a header, and for each line of the page the first date that is found
  * on it, each in a line of its own; or of a bad page the line `refused N at B`, N the number and B the byte place of its
  * fault. *written is then the number of bytes, and the rest of the place is left.
- * Answers MARKBOOK_DONE; MARKBOOK_MEMORY; or MARKBOOK_PLACE, where the place has fewer than 2048 bytes. In the last two
- * cases nothing is written. Memory is asked for first. */
+ * Answers MARKBOOK_DONE, of a bad page too; MARKBOOK_MEMORY; or MARKBOOK_PLACE, where the place has fewer than 2048 bytes. In
+ * the last two cases nothing is written. Where memory is wanting that is what it answers, also of a place too short. */
 uint8_t markbook_list_dates(const uint8_t *page, size_t page_length, uint8_t *place, size_t place_length, size_t *written);
 
 /* Reads a position text of 17 symbols, DDMMTTTH and DDDMMTTTH, as two numbers in thousandths of a minute, south and west
@@ -78,7 +78,8 @@ uint8_t markbook_write_position(int32_t latitude, int32_t longitude, uint8_t *pl
 enum {
     MARKBOOK_DATES = 1,     /* DDMMYYYY, the days from 1 January 1900 to 31 December 2099 */
     MARKBOOK_POSITIONS = 2, /* a latitude DDMMTTTH and behind it a longitude DDDMMTTTH, 17 symbols */
-    MARKBOOK_ON_SHEET = 3   /* positions inside the limits of the sheet or on them */
+    MARKBOOK_ON_SHEET = 3   /* of these the ones inside the limits of the sheet or on them. An opening is allowed when it is one of a
+                               position, and the sheet allows it too */
 };
 
 /* How totals are made. */
@@ -109,7 +110,7 @@ enum {
 
 /* What came of a row. */
 enum {
-    MARKBOOK_NOT_MADE = 0,
+    MARKBOOK_NOT_MADE = 0,  /* no run leaves it in a row: for whoever fills in the rows */
     MARKBOOK_LOADED = 1,
     MARKBOOK_GRANTED = 2,
     MARKBOOK_FOUND = 3,     /* `written` bytes of the place are the reading */
@@ -119,7 +120,8 @@ enum {
     MARKBOOK_REFUSED = 7    /* `refused` says why; nothing has changed */
 };
 
-/* A part that reaches past the end of the bytes lent is cut off there. A number that a call has no use for may be any. */
+/* A part that reaches past the end of the bytes lent is cut off there, and one that begins past it is empty. A number that a
+ * call has no use for may be any. */
 typedef struct markbook_asked {
     uint32_t call;
     size_t start;
@@ -131,7 +133,7 @@ typedef struct markbook_asked {
 typedef struct markbook_came {
     uint32_t outcome;
     uint32_t refused; /* MARKBOOK_REFUSED: the number of the refusal, 1 to 13 */
-    size_t place;     /* refused with 1 to 6: what markbook_checked says of the page */
+    size_t place;     /* refused with 1 to 6: what markbook_checked says of the page, counted from the start of the page */
     size_t line;
     size_t cell;
     size_t written;   /* MARKBOOK_FOUND: as many bytes as the line has cells */
@@ -151,7 +153,8 @@ typedef struct markbook_row {
  * What is asked stays as it is.
  * Answers MARKBOOK_DONE; MARKBOOK_UNKNOWN, where the grammar, the score or the call of a row has an unknown number;
  * MARKBOOK_TABLE, where a sheet is sought and its limits are out of order or out of range; or MARKBOOK_MEMORY. In the last
- * three cases nothing is written. Numbers are judged first, then the limits, and memory is asked for last. */
+ * three cases nothing is written, and the rows keep what stood in them. The numbers of all rows are judged first, then the
+ * limits, before any call is made; memory is asked for last. */
 uint8_t markbook_run(const markbook_seeking *seeking, const uint8_t *pages, size_t pages_length, uint8_t *places,
                      size_t places_length, markbook_row *rows, size_t rows_length);
 
