@@ -36,6 +36,19 @@ fn counts(rt: HostRuntime) -> Result<(), Fail> {
     Ok(())
 }
 
+// Each line by its number: they are told apart by their cells.
+#[test]
+fn lines_by_number(rt: HostRuntime) -> Result<(), Fail> {
+    let page = [
+        3, 1, 1, 65, 0, 0, 2, 1, 66, 0, 0, 1, 67, 0, 0, 3, 1, 68, 0, 0, 1, 69, 0, 0, 1, 70, 0, 0,
+    ];
+    for number in [0, 1, 2] {
+        let line = line_in(&page, number)?;
+        assert_eq!(rt; line.cells().len(), number + 1);
+    }
+    Ok(())
+}
+
 fn check_alternative(
     rt: &impl Abort,
     page: &[u8],

@@ -100,3 +100,23 @@ fn an_alternative_where_it_stands(rt: HostRuntime) -> Result<(), Fail> {
     assert_eq!(rt; fault.returned().number, 4);
     Ok(())
 }
+
+// A blank that comes again is refused as no symbol: the range is judged first.
+#[test]
+fn range_before_repetition(rt: HostRuntime) -> Result<(), Fail> {
+    let blank = Alternative {
+        symbol: 32,
+        penalty: 0,
+    };
+    let Err(fault) = read_alternative(&[32], 0, &[blank]) else {
+        return Err(Fail::new("a blank was read"));
+    };
+    assert_eq!(rt;
+        fault.returned(),
+        Returned {
+            number: 3,
+            place: 0
+        }
+    );
+    Ok(())
+}

@@ -58,6 +58,14 @@ fn lines_and_cells(rt: HostRuntime) -> Result<(), Fail> {
         Some((3, 7)),
         "refused 3 at 7\nline 0, cell 1: symbol 0xab is above 126\n",
     )?;
+    let page = [1, 1, 1, 127];
+    check_report(
+        &rt,
+        heap,
+        &page,
+        Some((3, 3)),
+        "refused 3 at 3\nline 0, cell 0: symbol 0x7f is above 126\n",
+    )?;
     let page = [1, 1, 2, 65, 0, 0, 65];
     check_report(
         &rt,
@@ -110,6 +118,20 @@ fn counts_and_ends(rt: HostRuntime) -> Result<(), Fail> {
     check_report(
         &rt,
         heap,
+        &[2, 1, 1, 65, 0, 0],
+        Some((1, 6)),
+        "refused 1 at 6\nline 1: the page ends where the count of cells is due\n",
+    )?;
+    check_report(
+        &rt,
+        heap,
+        &[1, 2, 1, 65, 0, 0],
+        Some((1, 6)),
+        "refused 1 at 6\nline 0, cell 1: the page ends where the count of alternatives is due\n",
+    )?;
+    check_report(
+        &rt,
+        heap,
         &[1, 1, 1, 65, 0],
         Some((1, 5)),
         "refused 1 at 5\nline 0, cell 0: the page ends where a symbol or a penalty is due\n",
@@ -133,5 +155,17 @@ fn a_fault_explained(rt: HostRuntime) -> Result<(), Fail> {
         .ok_or("the page was accepted")?;
     let words = explain(heap, &page, fault)?;
     assert!(rt; words.as_str() == "line 0: the count of cells is 0, not 1 to 24");
+    Ok(())
+}
+
+// A page that has no byte where the fault lies: it counts as 0.
+#[test]
+fn a_fault_of_another_page(rt: HostRuntime) -> Result<(), Fail> {
+    let heap = rt.alloc();
+    let fault = report_page(heap, &[1, 1, 1, 255])?
+        .fault
+        .ok_or("the page was accepted")?;
+    let words = explain(heap, &[], fault)?;
+    assert!(rt; words.as_str() == "line 0, cell 0: symbol 0x00 is below 33");
     Ok(())
 }
