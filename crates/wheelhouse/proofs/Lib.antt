@@ -1,2 +1,6 @@
+pub mod Begun
+pub mod Blanks
 pub mod Found
 pub mod Lists
+pub mod Replies
+pub mod Rooms

@@ -1,4 +1,6 @@
 pub mod Answers
 pub mod Desks
+pub mod Marks
+pub mod Replies
 pub mod Tasks
 pub mod Words

@@ -1,7 +1,7 @@
 // What the owner answers to a reading: a line, its words parted by blanks.
-ghost use Rattle.std.specs.Prelude.{map, MatchOption};
+ghost use Rattle.std.specs.Prelude.{◌≡◌, map, IfOk, MatchOption};
 ghost use Rattle.wheelhouse.specs.declared.answers.Answer.{Answer};
-ghost use Rattle.wheelhouse.specs.Answers.{IsAnswer};
+ghost use Rattle.wheelhouse.specs.Answers.{IsAnswer, IsRead, words_of};
 
 use std::alloc::{AllocError, Global};
 
@@ -29,8 +29,17 @@ fn answer_of(words: &[&str]) -> Option<Answer>
     }
 }
 
+// The words of a line, which blanks part.
+fn words_of(heap: Global, line: &str) -> Result<Vec<&str>, AllocError>
+    ensures { IfOk result (λ ws. map (λ w. w.now) ws.items ≡ words_of line.now) }
+{
+    line.split_ascii_whitespace().collect(heap)
+}
+
 // The answer of a line. Its words are collected first, so memory can be wanting.
-pub fn read_answer(heap: Global, line: &str) -> Result<Option<Answer>, AllocError> {
-    let words: Vec<&str> = line.split_whitespace().collect(heap)?;
+pub fn read_answer(heap: Global, line: &str) -> Result<Option<Answer>, AllocError>
+    ensures { IfOk result (IsRead (words_of line.now)) }
+{
+    let words = words_of(heap, line)?;
     Ok(answer_of(words.as_slice()))
 }

@@ -1,10 +1,11 @@
 // The desk at which a line is decided on: its reader, and what the owner sees of it.
-ghost use Rattle.std.specs.Prelude.{◌≡◌, replicate, IfOk, OnOk};
-ghost use Rattle.scores.specs.Scores.{sum_meaning};
-ghost use Rattle.descriptions.specs.Kinds.{charted};
+ghost use Rattle.std.specs.Prelude.{◌≡◌, ℕ, IfOk, OnErr, Option, string_bytes};
 ghost use Rattle.reader.specs.Views.{view};
-ghost use Rattle.reader.specs.Calls.{granting, next_of};
-ghost use Rattle.wheelhouse.specs.Desks.{Ready, Shows, room_of};
+ghost use Rattle.reader.specs.Calls.{granting};
+ghost use Rattle.wheelhouse.specs.declared.answers.Answer.{Answer};
+ghost use Rattle.wheelhouse.specs.Answers.{IsRead, words_of};
+ghost use Rattle.wheelhouse.specs.Desks.{Ready, Opens, Looks, GoesOn, Grants, room_of, up_to};
+ghost use Rattle.wheelhouse.specs.Replies.{told_words, Asked, asked_words, Confirms, GrantsMore, Answers};
 
 use crate::answers::{Answer, read_answer};
 use crate::reading::Reading;
@@ -32,7 +33,7 @@ pub enum Standing {
     Exhausted,
 }
 
-// Why a desk is in trouble: the reader refuses a call, or memory is wanting.
+// Why there is no desk: the reader refuses a call, or memory is wanting.
 #[derive(Clone, Copy, Debug, PartialEq, Eq)]
 pub enum Trouble {
     Refused(Refusal),
@@ -40,12 +41,20 @@ pub enum Trouble {
 }
 
 impl From<Refusal> for Trouble {
+    ghost use Rattle.wheelhouse.specs.declared.desk.Trouble.TheVariants.{Refused};
+
+    ghost from_gives = { λ r t. t ≡ Refused r };
+
     fn from(refusal: Refusal) -> Trouble {
         Trouble::Refused(refusal)
     }
 }
 
 impl From<AllocError> for Trouble {
+    ghost use Rattle.wheelhouse.specs.declared.desk.Trouble.TheVariants.{Memory};
+
+    ghost from_gives = { λ e t. t ≡ Memory e };
+
     fn from(error: AllocError) -> Trouble {
         Trouble::Memory(error)
     }
@@ -68,7 +77,8 @@ pub struct Desk {
 impl Desk {
     // A desk with the line of a page, under no grant yet.
     pub fn open(heap: Global, sheet: Sheet, page: &[u8], number: usize) -> Result<Desk, Trouble>
-        ensures { IfOk result Ready }
+        ensures ready { IfOk result Ready }
+        ensures opened { Opens sheet page.now number result }
     {
         let positions = Both {
             one: Then {
@@ -87,10 +97,11 @@ impl Desk {
         })
     }
 
-    // How many more chains may be granted.
+    // How many more chains may be granted: so many and no more are granted at once.
     pub fn room(&self) -> usize
         requires ready { Ready self.now }
-        ensures { result ≡ room_of (view self.now.reader) }
+        ensures room { result ≡ room_of (view self.now.reader) }
+        ensures law { (n : ℕ) → granting (view self.now.reader) n ≡ up_to (room_of (view self.now.reader)) n }
     {
         let report = self.reader.report();
         (MOST_GRANTED / report.cells.max(1)).saturating_sub(report.granted)
@@ -100,30 +111,30 @@ impl Desk {
         requires ready { Ready self.old }
         ensures ready { Ready self.new }
         ensures answer { result ≡ granting (view self.old.reader) chains }
+        ensures grants { IfOk result (λ done. Grants chains self.old self.new) }
+        ensures refused { OnErr result (self.new ≡ self.old) }
     {
         self.reader.grant(chains)
     }
 
-    // Looks on, to the next best reading. The one shown before is gone.
-    pub fn look(&mut self) -> Result<(), Refusal>
+    // Looks on, to the next best reading. The one shown before is gone. With a line loaded, a next is not refused.
+    pub fn look(&mut self)
         requires ready { Ready self.old }
         ensures ready { Ready self.new }
-        ensures shows { OnOk result (Shows self.old.sheet (next_of sum_meaning (charted self.old.sheet) (view self.old.reader) (replicate 24 0)) self.new.standing) }
+        ensures looks { Looks self.old self.new }
     {
         let mut place = [0; MOST_CELLS];
-        match self.reader.next(&mut place)? {
+        let outcome = self.reader.next(&mut place).unwrap();
+        match outcome {
             Outcome::Found(_) => {
                 let total = self.reader.last_total().unwrap();
                 self.standing = Standing::Shown(Reading::at(&place, total));
-                Ok(())
             }
             Outcome::Spent => {
                 self.standing = Standing::Spent;
-                Ok(())
             }
             Outcome::Exhausted => {
                 self.standing = Standing::Exhausted;
-                Ok(())
             }
         }
     }
@@ -131,6 +142,7 @@ impl Desk {
     // What the owner sees, and is asked.
     pub fn told(&self, heap: Global) -> Result<String, AllocError>
         requires ready { Ready self.now }
+        ensures { IfOk result (λ s. string_bytes s ≡ told_words self.now) }
     {
         match self.standing {
             Standing::Shown(reading) => {
@@ -151,6 +163,7 @@ impl Desk {
 
     fn ask(&self, heap: Global, note: Note) -> Result<Reply, AllocError>
         requires ready { Ready self.now }
+        ensures { IfOk result (Asked (asked_words note self.now)) }
     {
         let told = self.told(heap)?;
         let text = format!(in heap; "{note}\n{told}")?;
@@ -159,56 +172,64 @@ impl Desk {
 
     fn confirm(&self, heap: Global) -> Result<Reply, AllocError>
         requires ready { Ready self.now }
+        ensures { IfOk result (Confirms self.now self.now.standing) }
     {
-        let Standing::Shown(reading) = self.standing else {
-            return self.ask(heap, Note::NothingShown);
-        };
-        let kind = classify(&self.sheet, &reading.text);
-        let text = plotted_line(heap, reading.plot(), kind)?;
-        Ok(Reply::Done(text))
+        match self.standing {
+            Standing::Shown(reading) => {
+                let kind = classify(&self.sheet, &reading.text);
+                let text = plotted_line(heap, reading.plot(), kind)?;
+                Ok(Reply::Done(text))
+            }
+            Standing::Spent | Standing::Exhausted => self.ask(heap, Note::NothingShown),
+        }
     }
 
-    fn look_on(&mut self, heap: Global) -> Result<Reply, Trouble>
+    fn look_on(&mut self, heap: Global) -> Result<Reply, AllocError>
         requires ready { Ready self.old }
         ensures ready { Ready self.new }
+        ensures looks { Looks self.old self.new }
+        ensures asked { IfOk result (Asked (told_words self.new)) }
     {
-        self.look()?;
+        self.look();
         let text = self.told(heap)?;
         Ok(Reply::Ask(text))
     }
 
     // A reading that is shown stays; without one the search goes on.
-    fn go_on(&mut self) -> Result<(), Refusal>
+    fn go_on(&mut self)
         requires ready { Ready self.old }
         ensures ready { Ready self.new }
+        ensures goes { GoesOn self.old.standing self.old self.new }
     {
         match self.standing {
-            Standing::Shown(_) => Ok(()),
+            Standing::Shown(_) => {}
             Standing::Spent | Standing::Exhausted => self.look(),
         }
     }
 
-    fn grant_more(&mut self, heap: Global, chains: usize) -> Result<Reply, Trouble>
+    fn grant_more(&mut self, heap: Global, chains: usize) -> Result<Reply, AllocError>
         requires ready { Ready self.old }
         ensures ready { Ready self.new }
+        ensures grants { IfOk result (GrantsMore chains (granting (view self.old.reader) chains) self.old self.new) }
     {
         if let Err(refusal) = self.grant(chains) {
             let room = self.room();
-            return Ok(self.ask(heap, Note::Refused { refusal, room })?);
+            return self.ask(heap, Note::Refused { refusal, room });
         }
-        self.go_on()?;
+        self.go_on();
         let granted = self.reader.report().granted;
-        Ok(self.ask(heap, Note::Granted { chains, granted })?)
+        self.ask(heap, Note::Granted { chains, granted })
     }
 
     // Does what the owner's line answers, if it is an answer.
-    pub fn answer(&mut self, heap: Global, line: &str) -> Result<Reply, Trouble>
+    pub fn answer(&mut self, heap: Global, line: &str) -> Result<Reply, AllocError>
         requires ready { Ready self.old }
         ensures ready { Ready self.new }
+        ensures answers { IfOk result (λ reply. (o : Option Answer) × IsRead (words_of line.now) o × Answers o self.old self.new reply) }
     {
         match read_answer(heap, line)? {
-            None => Ok(self.ask(heap, Note::NoAnswer)?),
-            Some(Answer::Confirm) => Ok(self.confirm(heap)?),
+            None => self.ask(heap, Note::NoAnswer),
+            Some(Answer::Confirm) => self.confirm(heap),
             Some(Answer::Next) => self.look_on(heap),
             Some(Answer::Grant(chains)) => self.grant_more(heap, chains),
             Some(Answer::Leave) => Ok(Reply::Done(LEFT.to_string(heap)?)),

@@ -4,6 +4,7 @@
 
 ghost use Rattle.std.specs.Prelude.{IfOk};
 ghost use Rattle.wheelhouse.specs.Desks.{Ready};
+ghost use Rattle.wheelhouse.specs.Tasks.{Begins};
 
 mod answers;
 mod desk;
@@ -33,19 +34,20 @@ fn in_words(heap: Global, page: &[u8], trouble: Trouble) -> anyhow::Error {
     }
 }
 
-// The desk with its first grant and its first look.
+// The desk with its first grant and its first look. A grant that is not named is the most, and is not refused.
 fn begin(heap: Global, task: &Task, page: &[u8]) -> Result<Desk, Trouble>
-    ensures { IfOk result Ready }
+    ensures ready { IfOk result Ready }
+    ensures begins { Begins task.now page.now result }
 {
     let mut desk = Desk::open(heap, task.sheet, page, task.line)?;
     let grant = task.grant.unwrap_or(desk.room());
     desk.grant(grant)?;
-    desk.look()?;
+    desk.look();
     Ok(desk)
 }
 
 // The end of the input leaves the line, as `q` does.
-fn converse(rt: &HostRuntime, page: &[u8], desk: &mut Desk) -> anyhow::Result<()>
+fn converse(rt: &HostRuntime, desk: &mut Desk) -> anyhow::Result<()>
     requires { Ready desk.old }
 {
     rt.println(Note::Help)?;
@@ -56,10 +58,7 @@ fn converse(rt: &HostRuntime, page: &[u8], desk: &mut Desk) -> anyhow::Result<()
             Err(error) if error.kind() == ErrorKind::InvalidData => String::new(rt.alloc()),
             line => line?,
         };
-        let reply = desk
-            .answer(rt.alloc(), line.as_str())
-            .map_err(|trouble| in_words(rt.alloc(), page, trouble))?;
-        match reply {
+        match desk.answer(rt.alloc(), line.as_str())? {
             Reply::Ask(text) => rt.println(text)?,
             Reply::Done(text) => {
                 rt.println(text)?;
@@ -75,7 +74,7 @@ fn walk(rt: &HostRuntime, task: &Task) -> anyhow::Result<()> {
     let page = fs::read(rt, task.page).context("cannot read the page")?;
     let page = page.as_slice();
     match begin(rt.alloc(), task, page) {
-        Ok(mut desk) => converse(rt, page, &mut desk),
+        Ok(mut desk) => converse(rt, &mut desk),
         Err(trouble) => Err(in_words(rt.alloc(), page, trouble)),
     }
 }

@@ -1,6 +1,7 @@
 // A reading that was handed out, and its mark.
 ghost use Rattle.std.specs.Prelude.{◌≡◌, ◌≤◌, length, take, true};
 ghost use Rattle.marks.specs.Marks.{plotted};
+ghost use Rattle.wheelhouse.specs.Marks.{mark_of};
 ghost use Rattle.positions.specs.Positions.{is_position, pair_of};
 
 use marks::propose;
@@ -32,7 +33,8 @@ impl Reading {
     // The eight bytes of the mark that the reading is, which say its position. A mark is proposed here alone, where it is
     // confirmed: one that was proposed has to be decided on.
     pub fn plot(&self) -> [u8; 8]
-        ensures { plotted result ≡ pair_of self.now.text }
+        ensures bytes { result ≡ mark_of self.now.text }
+        ensures told { plotted result ≡ pair_of self.now.text }
     {
         let mut bytes = [0; 8];
         let mark = propose(&self.text).unwrap().confirm();

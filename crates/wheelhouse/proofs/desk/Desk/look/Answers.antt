@@ -1,13 +1,16 @@
-use Rattle.std.proofs.Common.{◌≡◌, rules, sym, refl, ap, ◌∙◌, take, Ok}
+use Rattle.std.specs.Result.{is_ok}
+use Rattle.std.proofs.Common.{◌≡◌, ◌≤◌, arith, rules, sym, refl, ap, ◌∙◌, take, replicate, Ok}
 use Rattle.positions.specs.Positions.{is_position}
 use Rattle.descriptions.specs.Kinds.{charted}
 use Rattle.reader.specs.declared.calls.Outcome.TheVariants.{Found, Spent, Exhausted}
-use Rattle.wheelhouse.specs.declared.desk.Standing.TheVariants as standing
-use Rattle.wheelhouse.proofs.Found.{still_ready, seen_by, shown_by}
+use Rattle.wheelhouse.proofs.Found.{still_ready, seen_by, looks_by, line_kept, not_refused}
 use Rattle.wheelhouse.proofs.desk.Desk.look.Goals as goal
 
-pub returns-in_err-next-clause-ready : goal.returns-in_err-next-clause-ready
-returns-in_err-next-clause-ready c = still_ready c.args.self.now _ c.requires.ready refl c.next.ensures.kept c.next.ensures.agrees
+pub unwrap-outcome-requires : goal.unwrap-outcome-requires
+unwrap-outcome-requires c =
+    let room : 24 ≤ 24 = omega arith in
+    let outcome = not_refused c.args.self.now c.requires.ready (replicate 24 0) room in
+    ap is_ok (c.next.ensures.answer ∙ outcome.1)
 
 pub at-requires-clause-position : goal.at-requires-clause-position
 at-requires-clause-position c =
@@ -16,29 +19,35 @@ at-requires-clause-position c =
     ap (λ p. is_position (take 17 p)) c.next.ensures.place ∙ seen.position
 
 pub returns-in-Found-clause-ready : goal.returns-in-Found-clause-ready
-returns-in-Found-clause-ready c = still_ready c.args.self.now _ c.requires.ready refl c.next.ensures.kept c.next.ensures.agrees
+returns-in-Found-clause-ready c =
+    still_ready c.args.self.now _ c.requires.ready refl (ap (λ v. v.line) c.next.ensures.state ∙ line_kept c.args.self.now c.requires.ready _)
+    c.next.ensures.kept c.next.ensures.agrees
 
-pub returns-in-Found-clause-shows : goal.returns-in-Found-clause-shows
-returns-in-Found-clause-shows c =
+pub returns-in-Found-clause-looks : goal.returns-in-Found-clause-looks
+returns-in-Found-clause-looks c =
     let found : c.next.result ≡ Ok (Found c.in-Found.field-0) = search rules in
     let told = sym c.next.ensures.answer ∙ found in
     let seen = seen_by c.args.self.now c.requires.ready _ c.in-Found.field-0 told in
     let text = c.at.ensures.text ∙ ap (take 17) c.next.ensures.place in
-    shown_by c.args.self.now c.requires.ready _ (standing.Shown c.at.result)
+    looks_by c.args.self.now _ c.requires.ready refl c.next.ensures.state
     (told ∙ ap (λ n. Ok (Found n)) seen.cells, text, search rules, ap (λ w. (charted c.args.self.now.sheet).admits w) text ∙ seen.admits)
 
 pub returns-in-Spent-clause-ready : goal.returns-in-Spent-clause-ready
-returns-in-Spent-clause-ready c = still_ready c.args.self.now _ c.requires.ready refl c.next.ensures.kept c.next.ensures.agrees
+returns-in-Spent-clause-ready c =
+    still_ready c.args.self.now _ c.requires.ready refl (ap (λ v. v.line) c.next.ensures.state ∙ line_kept c.args.self.now c.requires.ready _)
+    c.next.ensures.kept c.next.ensures.agrees
 
-pub returns-in-Spent-clause-shows : goal.returns-in-Spent-clause-shows
-returns-in-Spent-clause-shows c =
+pub returns-in-Spent-clause-looks : goal.returns-in-Spent-clause-looks
+returns-in-Spent-clause-looks c =
     let spent : c.next.result ≡ Ok Spent = search rules in
-    shown_by c.args.self.now c.requires.ready _ standing.Spent (sym c.next.ensures.answer ∙ spent)
+    looks_by c.args.self.now _ c.requires.ready refl c.next.ensures.state (sym c.next.ensures.answer ∙ spent)
 
 pub returns-in-Exhausted-clause-ready : goal.returns-in-Exhausted-clause-ready
-returns-in-Exhausted-clause-ready c = still_ready c.args.self.now _ c.requires.ready refl c.next.ensures.kept c.next.ensures.agrees
+returns-in-Exhausted-clause-ready c =
+    still_ready c.args.self.now _ c.requires.ready refl (ap (λ v. v.line) c.next.ensures.state ∙ line_kept c.args.self.now c.requires.ready _)
+    c.next.ensures.kept c.next.ensures.agrees
 
-pub returns-in-Exhausted-clause-shows : goal.returns-in-Exhausted-clause-shows
-returns-in-Exhausted-clause-shows c =
+pub returns-in-Exhausted-clause-looks : goal.returns-in-Exhausted-clause-looks
+returns-in-Exhausted-clause-looks c =
     let exhausted : c.next.result ≡ Ok Exhausted = search rules in
-    shown_by c.args.self.now c.requires.ready _ standing.Exhausted (sym c.next.ensures.answer ∙ exhausted)
+    looks_by c.args.self.now _ c.requires.ready refl c.next.ensures.state (sym c.next.ensures.answer ∙ exhausted)
