@@ -1,14 +1,11 @@
 -- How a task begins. Assumes nothing.
-use Rattle.std.proofs.Common.{◌≡◌, ℕ, List, Some, None, Ok, Err, Option, Result, sym, refl, ap, ◌∙◌, subst}
+use Rattle.std.proofs.Common.{◌≡◌, ℕ, List, Some, None, Ok, Option, sym, refl, ap, ◌∙◌, subst}
 use Rattle.std.specs.Option.{unwrap_or}
 use Rattle.pages.specs.Shape.{Cells}
-use Rattle.scores.specs.Scores.{sum_meaning}
 use Rattle.grammars.specs.declared.sheet.Sheet.{Sheet}
-use Rattle.reader.specs.declared.refusals.Refusal.{Refusal}
 use Rattle.reader.specs.Views.{View, view, loaded}
-use Rattle.reader.specs.Calls.{loading, granting, granted_more}
+use Rattle.reader.specs.Calls.{granting, granted_more}
 use Rattle.wheelhouse.specs.declared.desk.Desk.{Desk}
-use Rattle.wheelhouse.specs.declared.desk.Trouble.{Trouble}
 use Rattle.wheelhouse.specs.declared.task.Task.{Task}
 use Rattle.wheelhouse.specs.Desks.{Opens, Looks, Grants, Shows, nexted, room_of}
 use Rattle.wheelhouse.specs.Tasks.{Begins, first_grant, first_view}

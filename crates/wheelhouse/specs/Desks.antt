@@ -1,5 +1,5 @@
 -- A desk, what its calls do to it, and what it shows. Assumes nothing.
-use Rattle.std.specs.Prelude.{◌≡◌, ℕ, ◌+◌, ◌-◌, ◌/◌, max, cond, ◌&&◌, nat_le, List, take, replicate, Some, Ok, Err, Result, true}
+use Rattle.std.specs.Prelude.{◌≡◌, ℕ, ◌-◌, ◌/◌, max, cond, ◌&&◌, nat_le, List, take, replicate, Some, Ok, Err, Result, true}
 use Rattle.pages.specs.Shape.{Cells}
 use Rattle.positions.specs.declared.angles.Axis.{Axis}
 use Rattle.positions.specs.declared.angles.Axis.TheVariants.{Latitude, Longitude}

@@ -1,6 +1,5 @@
 use Rattle.std.proofs.Common.{◌≡◌, rules, Ok, sym, refl, ap, ◌∙◌}
 use Rattle.scores.specs.Scores.{sum_meaning}
-use Rattle.reader.specs.Views.{unloaded}
 use Rattle.reader.specs.Calls.{loading}
 use Rattle.wheelhouse.proofs.Found.{made_ready, taken}
 use Rattle.wheelhouse.proofs.desk.Desk.open.Goals as goal
