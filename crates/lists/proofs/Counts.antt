@@ -1,5 +1,5 @@
 -- The lines of a page, counted one after another. Assumes nothing.
-use Rattle.std.proofs.Common.{◌≡◌, ℕ, ◌+◌, ◌≤◌, List, [], ◌∷◌, ◌++◌, length, Ok, Err, Option, Result, sym, refl, ap, ◌∙◌, append-nil, arith}
+use Rattle.std.proofs.Common.{◌≡◌, ℕ, ◌+◌, ◌≤◌, List, [], ◌∷◌, ◌++◌, length, Ok, Err, Option, Result, sym, refl, ap, ◌∙◌, arith}
 use Rattle.std.proofs.lemmas.List.{length_push}
 use Rattle.pages.specs.declared.lines.Line.{Line}
 use Rattle.pages.specs.declared.faults.PageFault.{PageFault}
@@ -37,12 +37,6 @@ module _ {bytes : List ℕ} {number : ℕ} {rest : List (Result Cells PageFault)
         few = omega (arith, ap length e, h.few);
         whole = h.whole ∙ ap (λ r. after_lines lines (gathered r)) e ∙ after_push lines l (gathered more);
       }
-
-  pub passed_bad : {f : PageFault} (more : List (Result Cells PageFault)) → rest ≡ Err f ∷ more → Err f ≡ counted (read_page bytes)
-  passed_bad more e = sym (ap counted (h.whole ∙ ap (λ r. after_lines h.lines (gathered r)) e))
-
-  pub passed_all : rest ≡ [] → Ok number ≡ counted (read_page bytes)
-  passed_all e = sym (ap counted (h.whole ∙ ap (λ r. after_lines h.lines (gathered r)) e ∙ ap Ok (append-nil h.lines)) ∙ ap Ok h.long)
 
 pub all_counted : (r : Result Lines PageFault) (n : ℕ) → counted r ≡ Ok n → n ≡ length (lines_of r)
 all_counted (Ok lines) n e = cc

@@ -216,17 +216,6 @@ pub record Keeping (bytes : List ℕ) (wanted number : ℕ) (rest : List (Result
   pub whole : read_page bytes ≡ after_lines lines (gathered rest)
   pub kept : option_map line_of found ≡ slice_get lines wanted
 
-pub keep_none : (bytes : List ℕ) (wanted : ℕ) {number : ℕ} {left : Option PageLines} (p : PageLines) → number ≡ 0 → left ≡ Some p → BeforeFirst bytes p
-    → Keeping bytes wanted number (answers_left left) None
-keep_none bytes wanted {left = left} p none is h =
-    subst (λ n. Keeping bytes wanted n (answers_left left) None) (sym none)
-    (subst (λ l. Keeping bytes wanted 0 (answers_left l) None) (sym is) (record {
-      lines = [];
-      long = refl;
-      whole = h.whole ∙ sym (all_gathered p.bytes.now (p.count - p.number) p.place p.number) ∙ sym (after_none (gathered (answers_left (Some p))));
-      kept = refl;
-    }))
-
 module _ {bytes : List ℕ} {wanted number : ℕ} {rest : List (Result Cells PageFault)} {found : Option Line} (h : Keeping bytes wanted number rest found) where
   pub keep_more : (line : Line) {next : ℕ} (more : List (Result Cells PageFault)) (then : Option Line) → rest ≡ Ok (line_of line) ∷ more → next ≡ number + 1
       → (number ≡ wanted → then ≡ Some line) → ((number ≡ wanted → ⊥) → then ≡ found) → Keeping bytes wanted next more then

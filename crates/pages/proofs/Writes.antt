@@ -117,10 +117,6 @@ pub alternative_next : {whole was place : List ℕ} {start at : ℕ} (items : Al
     → Laid whole was start place at ((get_or items j d).symbol ∷ (get_or items j d).penalty / 256 ∷ (get_or items j d).penalty % 256 ∷ (flat_map alternative_bytes (drop (j + 1) items) ++ tail))
 alternative_next items j tail d h lt = laid_at (ap (λ l. flat_map alternative_bytes l ++ tail) (drop_more items j d lt)) h
 
-pub cell_end : {whole was place : List ℕ} {start at : ℕ} (items : Alternatives) (j : ℕ) (tail : List ℕ)
-    → Laid whole was start place at (flat_map alternative_bytes (drop j items) ++ tail) → length items ≤ j → Laid whole was start place at tail
-cell_end items j tail h le = laid_at (ap (λ l. flat_map alternative_bytes l ++ tail) (drop_all j items le)) h
-
 pub line_end : {whole was place : List ℕ} {start at : ℕ} (cells : Cells) (i : ℕ)
     → Laid whole was start place at (flat_map cell_bytes (drop i cells)) → length cells ≤ i → Laid whole was start place at []
 line_end cells i h le = laid_at (ap (flat_map cell_bytes) (drop_all i cells le)) h

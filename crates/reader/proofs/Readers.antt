@@ -49,12 +49,6 @@ module _ {G S : Type 0} {m : Ghosts S} (s : Meaning) (g : Sets) (r : Reader G S 
       let more : 1 * r.granted ≤ length (line_of line) * r.granted = mul-le-mul_right r.granted (line_parts (line_of line) line.sound).some in
       omega arith
 
-  pub product_small : (n : ℕ) → n ≤ 4095 → length (line_of line) * (r.granted + n) ≤ 24 * 8190
-  product_small n less =
-      let small = grant_small in
-      let both : r.granted + n ≤ 8190 = omega arith in
-      mul-le-mul (line_parts (line_of line) line.sound).few both
-
 -- what a report says of the line, and of the places in use
 pub counted : (lent : Option (Bor Line)) (n : ℕ) → (lent ≡ None → n ≡ 0) → ((line : Bor Line) → lent ≡ Some line → n ≡ length (line_of line.now)) → n ≡ cells_of (option_map line_of (option_copied lent))
 counted None n none some = none refl

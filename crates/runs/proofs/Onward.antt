@@ -53,6 +53,3 @@ module _ {G S : Type 0} {m : Ghosts S} {s : Meaning} {sets : G → Sets} {gramma
           kept = same ∙ r.kept;
           rest = drop-set-lt (i + 1) rows i row' (omega arith) ∙ behind;
         }
-
-    pub running_all : length rows ≤ i → length rows ≡ length rows₀ → Runs s (sets grammar) pages places₀ rows₀ rows places
-    running_all le long = (r.history, subst₂ (λ xs ys. Ran s (sets grammar) pages places₀ xs ys r.history places) (take_all i rows₀ (omega arith)) (take_all i rows le) r.ran)
