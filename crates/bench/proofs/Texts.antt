@@ -1,14 +1,14 @@
 -- The text, the penalties and the last raised cell of a chain, cell by cell. Assumes nothing.
-use Rattle.std.proofs.Common.{◌≡◌, ℕ, zero, suc, ◌+◌, ◌<◌, ◌≤◌, List, [], ◌∷◌, ◌++◌, map, length, get_or, take, replicate, Some, None, Option, MatchOption, sym, refl, ap, ◌∙◌, subst, ⊎_elim, arith}
+use Rattle.std.proofs.Common.{◌≡◌, ℕ, zero, suc, ◌+◌, ◌-◌, ◌<◌, ◌≤◌, List, [], ◌∷◌, ◌++◌, map, length, get_or, take, drop, set, replicate, Some, None, Option, MatchOption, sym, refl, ap, ◌∙◌, ⊎_elim, arith}
 use Rattle.std.specs.Option.{unwrap_or}
-use Rattle.std.specs.Fn.{Called}
-use Rattle.std.specs.Array.{IsMapOf, IsFromFnResult, IsFromFnResultFrom}
-use denote.Param.Members.{Mut}
-use Rattle.std.proofs.lemmas.List.{take_all, take-append-le, length-map, get_or-map, get_or_past, ext_get_or}
-use Rattle.std.proofs.lemmas.Bool.{cases_lt, cases_eq}
-use Rattle.std.proofs.lemmas.Grind.{common_steps}
+use Rattle.std.proofs.lemmas.List.{take_all, take-append-le, length-map, get_or-map, get_or_past, get_or-set_same}
+use Rattle.std.proofs.lemmas.List.Sums.{fold-append}
+use Rattle.std.proofs.lemmas.Bool.{cases_lt}
+use lib.Seq.{take-suc}
+use Rattle.pages.specs.declared.lines.Alternative.{Alternative}
 use Rattle.pages.specs.Shape.{Cells}
-use Rattle.search.specs.Chains.{Chain, ChainOf, no_alt, taken, text, last_raised, or_zero}
+use Rattle.scores.specs.Scores.{Meaning, stepped}
+use Rattle.search.specs.Chains.{Chain, ChainOf, no_alt, taken, text, penalties, total, last_raised, raised, or_zero}
 use Rattle.search.proofs.Raised.{Last, last_of, is_last, is_flat}
 
 pub taken_long : (line : Cells) (c : Chain) → length c ≡ length line → length (taken line c) ≡ length line
@@ -23,30 +23,63 @@ text_long line c e = length-map (taken line c) (λ a. a.symbol) ∙ taken_long l
 pub text_fills : (line : Cells) (c : Chain) (t : List ℕ) → ChainOf line c → t ≡ text line c → length t ≡ length line
 text_fills line c t chain e = ap length e ∙ text_long line c chain.long
 
--- what a chain takes in a cell, and no_alt past its end
-pub taken_at : (line : Cells) (c : Chain) (n i : ℕ) → length c ≡ length line → get_or (taken line c ++ replicate n no_alt) i no_alt ≡ get_or (get_or line i []) (get_or c i 0) no_alt
-taken_at [] c n i e = grind (arith, common_steps)
-taken_at (cell ∷ line) [] n i e = absurd (omega arith)
-taken_at (cell ∷ line) (r ∷ c) n zero e = refl
-taken_at (cell ∷ line) (r ∷ c) n (suc i) e = taken_at line c n i (omega arith)
+pub penalties_long : (line : Cells) (c : Chain) → length c ≡ length line → length (penalties line c) ≡ length line
+penalties_long line c e = length-map (taken line c) (λ a. a.penalty) ∙ taken_long line c e
 
--- an array that `from_fn` makes, where each call reads a list and leaves the callee as it was
-pub filled : {F A : Type 0} (g : Mut F (ℕ × Unit {0}) A) (f : F) (xs ys : List A) (n : ℕ) (d : A) → IsFromFnResult g f ys n → length xs ≡ n
-    → ((k : ℕ) (y : A) (q : F) → Called g f (k, tt) y q → (y ≡ get_or xs k d) × (q ≡ f)) → ys ≡ xs
-filled g f xs ys n d is long says = ext_get_or d ys xs (is.long ∙ sym long) (λ k lt. go 0 n is.each k (omega arith) (omega (arith, is.long)))
-  where
-    go : (i n : ℕ) → IsFromFnResultFrom g f ys i n → (k : ℕ) → i ≤ k → k < i + n → get_or ys k d ≡ get_or xs k d
-    go i zero calls k low high = absurd (omega arith)
-    go i (suc n) (q, y, here, call, calls) k low high =
-        let said = says i y q call in
-        ⊎_elim (λ e. rw (← e) (here.1 d ∙ said.0)) (λ ne. go (i + 1) n (subst (λ f. IsFromFnResultFrom g f ys (i + 1) n) said.1 calls) k (omega arith) (omega arith)) (cases_eq i k)
+-- what a chain takes in a cell
+pub taken_at : (line : Cells) (c : Chain) (i : ℕ) → length c ≡ length line → get_or (taken line c) i no_alt ≡ get_or (get_or line i []) (get_or c i 0) no_alt
+taken_at [] c i e = refl
+taken_at (cell ∷ line) [] i e = absurd (omega arith)
+taken_at (cell ∷ line) (r ∷ c) zero e = refl
+taken_at (cell ∷ line) (r ∷ c) (suc i) e = taken_at line c i (omega arith)
 
--- an array that `map` makes, where each call answers h of its element
-pub mapped : {F A B : Type 0} (g : Mut F (A × Unit {0}) B) (f : F) (h : A → B) (xs : List A) (ys : List B) (n : ℕ) (d : A) (e : B) → IsMapOf g f xs ys n → length xs ≡ n
-    → ((p : F) (x : A) (y : B) (q : F) → Called g p (x, tt) y q → y ≡ h x) → ys ≡ map h xs
-mapped g f h xs ys n d e is long says =
-    ext_get_or e ys (map h xs) (is.long ∙ sym long ∙ sym (length-map xs h))
-    (λ i lt. let in-n : i < n = let z = is.long in omega arith in says _ _ _ _ (is.at i d e in-n).2 ∙ sym (get_or-map h xs i d e (omega arith)))
+-- a part of what it takes in a cell of the line
+pub part_at : (f : Alternative → ℕ) (line : Cells) (c : Chain) (i : ℕ) → length c ≡ length line → i < length line → get_or (map f (taken line c)) i 0 ≡ f (get_or (get_or line i []) (get_or c i 0) no_alt)
+part_at f line c i e lt = get_or-map f (taken line c) i no_alt 0 (omega (arith, taken_long line c e)) ∙ ap f (taken_at line c i e)
+
+-- an array that is filled from the front, with one place more
+pub filled_more : (xs : List ℕ) (i m n x : ℕ) → i < length xs → m ≡ suc n → x ≡ get_or xs i 0 → set (take i xs ++ replicate m 0) i x ≡ take (suc i) xs ++ replicate n 0
+filled_more [] i m n x lt more e = absurd (omega arith)
+filled_more (y ∷ xs) zero m n x lt more e = ap (λ k. set (replicate k 0) 0 x) more ∙ (λ j. e j ∷ replicate n 0)
+filled_more (y ∷ xs) (suc i) m n x lt more e = ap (λ z. y ∷ z) (filled_more xs i m n x (omega arith) more e)
+
+-- and with all of them
+pub filled_all : (xs ys : List ℕ) (i n : ℕ) → ys ≡ take i xs ++ replicate (24 - i) 0 → i ≡ n → length xs ≡ n → ys ≡ xs ++ replicate (24 - n) 0
+filled_all xs ys i n e end long = e ∙ ap (λ k. take k xs ++ replicate (24 - k) 0) end ∙ ap (λ z. z ++ replicate (24 - n) 0) (take_all n xs (omega arith))
+
+-- the penalties with another rank in one cell
+penalties_set : (line : Cells) (c : Chain) (i r : ℕ) → length c ≡ length line → i < length c
+    → penalties line (set c i r) ≡ take i (penalties line c) ++ (get_or (get_or line i []) r no_alt).penalty ∷ drop (suc i) (penalties line c)
+penalties_set [] c i r e lt = absurd (omega arith)
+penalties_set (cell ∷ line) [] i r e lt = absurd (omega arith)
+penalties_set (cell ∷ line) (x ∷ c) zero r e lt = refl
+penalties_set (cell ∷ line) (x ∷ c) (suc i) r e lt = ap (λ ps. (get_or cell x no_alt).penalty ∷ ps) (penalties_set line c i r (omega arith) (omega arith))
+
+-- the total of a child d of c, from the total before the raised cell, the penalty there and those behind it
+pub child_total : (s : Meaning) (line k : Cells) (c d : Chain) (i before p : ℕ) → length c ≡ length line → i < length line → k ≡ line → d ≡ raised c i
+    → before ≡ stepped s s.start (take i (penalties line c)) → p ≡ (get_or (get_or k i []) (get_or d i 0) no_alt).penalty
+    → stepped s (s.step before p) (drop (i + 1) (penalties line c)) ≡ total s k d
+child_total s line k c d i before p long lt same child first is =
+    let r = get_or c i 0 + 1 in
+    let ps = penalties line c in
+    let inside : i < length c = omega arith in
+    let next : suc i ≡ i + 1 = omega arith in
+    let step : p ≡ (get_or (get_or line i []) r no_alt).penalty =
+    is ∙ (λ j. (get_or (get_or (same j) i []) (get_or (child j) i 0) no_alt).penalty) ∙ ap (λ n. (get_or (get_or line i []) n no_alt).penalty) (get_or-set_same c i r 0 inside) in
+    (λ j. stepped s (s.step (first j) (step j)) (drop (i + 1) ps))
+    ∙ sym (fold-append s.step s.start (take i ps) ((get_or (get_or line i []) r no_alt).penalty ∷ drop (i + 1) ps))
+    ∙ ap (λ n. stepped s s.start (take i ps ++ (get_or (get_or line i []) r no_alt).penalty ∷ drop n ps)) (sym next)
+    ∙ ap (stepped s s.start) (sym (penalties_set line c i r long inside))
+    ∙ sym (λ j. total s (same j) (child j))
+
+-- the total before the next cell
+pub before_next : (s : Meaning) (ps : List ℕ) (i before : ℕ) → i < length ps → before ≡ stepped s s.start (take i ps) → s.step before (get_or ps i 0) ≡ stepped s s.start (take (i + 1) ps)
+before_next s ps i before lt e =
+    let next : i + 1 ≡ suc i = omega arith in
+    ap (λ t. s.step t (get_or ps i 0)) e
+    ∙ sym (fold-append s.step s.start (take i ps) (get_or ps i 0 ∷ []))
+    ∙ ap (stepped s s.start) (sym (take-suc ps i 0 lt))
+    ∙ ap (λ n. stepped s s.start (take n ps)) (sym next)
 
 -- the last rank that is not 0, from a search for it
 pub last_found : (c : Chain) (r : Option ℕ) → MatchOption r ((k : ℕ) → k < length c → get_or c k 0 ≡ 0) (λ i. (i < length c) × (get_or c i 0 ≡ 0 → ⊥) × ((k : ℕ) → i < k → k < length c → get_or c k 0 ≡ 0))

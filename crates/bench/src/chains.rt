@@ -2,12 +2,18 @@
 ghost use Rattle.std.specs.Prelude.{◌≡◌, ◌+◌, ◌-◌, ◌<◌, ◌≤◌, [], ◌++◌, length, replicate, slice_index, slice_index_or, MatchOption};
 ghost use Rattle.std.proofs.Props.{props};
 ghost use Rattle.pages.specs.Answers.{line_of};
-ghost use Rattle.search.specs.Chains.{ChainOf, no_alt, taken, text, total, root, raised, last_raised, or_zero};
+ghost use Rattle.search.specs.Chains.{ChainOf, no_alt, text, penalties, root, raised, last_raised, or_zero};
 ghost use Rattle.bench.specs.Ranks.{chain_in};
 
 use crate::ranks::Ranks;
 use pages::{Alternative, Line, MOST_CELLS};
-use scores::Score;
+
+// The text and the penalties of a chain, held in place.
+#[derive(Clone, Copy)]
+pub(crate) struct Taken {
+    pub(crate) text: [u8; MOST_CELLS],
+    pub(crate) penalties: [u16; MOST_CELLS],
+}
 
 // A chain with its line.
 #[derive(Clone, Copy)]
@@ -31,40 +37,37 @@ impl<'a> Chain<'a> {
         }
     }
 
-    // The alternative that it takes in a cell, and an empty one past the last cell. A `match`: what is taken is looked up in
-    // the cell that was found.
+    // The alternative that it takes in a cell.
     fn alternative(&self, cell: usize) -> Alternative
+        requires { cell < length (cells_of self.now) }
         ensures { result ≡ slice_index_or (slice_index_or (cells_of self.now) cell []) (slice_index (chosen self.now) cell) no_alt }
     {
-        match self.line.cells().get(cell) {
-            Some(found) => found.alternatives()[usize::from(self.ranks.rank(cell))],
-            None => Alternative {
-                symbol: 0,
-                penalty: 0,
-            },
+        self.line.cells()[cell].alternatives()[usize::from(self.ranks.rank(cell))]
+    }
+
+    pub(crate) fn penalty(&self, cell: usize) -> u16
+        requires { cell < length (cells_of self.now) }
+        ensures { result ≡ (slice_index_or (slice_index_or (cells_of self.now) cell []) (slice_index (chosen self.now) cell) no_alt).penalty }
+    {
+        self.alternative(cell).penalty
+    }
+
+    // What it takes in its cells, and 0 past its end.
+    pub(crate) fn taken(&self) -> Taken
+        ensures text { result.text ≡ text (cells_of self.now) (chosen self.now) ++ replicate (24 - length (cells_of self.now)) 0 }
+        ensures penalties { result.penalties ≡ penalties (cells_of self.now) (chosen self.now) ++ replicate (24 - length (cells_of self.now)) 0 }
+    {
+        let mut taken = Taken {
+            text: [0; MOST_CELLS],
+            penalties: [0; MOST_CELLS],
+        };
+        // By the number: each cell has its place in both arrays.
+        for cell in 0..self.line.cells().len() {
+            let alternative = self.alternative(cell);
+            taken.text[cell] = alternative.symbol;
+            taken.penalties[cell] = alternative.penalty;
         }
-    }
-
-    // The alternative that it takes in each cell, and an empty one past the last cell, held in place.
-    fn taken(&self) -> [Alternative; MOST_CELLS]
-        ensures { result ≡ taken (cells_of self.now) (chosen self.now) ++ replicate (24 - length (cells_of self.now)) no_alt }
-    {
-        std::array::from_fn(|cell| self.alternative(cell))
-    }
-
-    // Its text, and 0 past its end, held in place.
-    pub(crate) fn text(&self) -> [u8; MOST_CELLS]
-        ensures { result ≡ text (cells_of self.now) (chosen self.now) ++ replicate (24 - length (cells_of self.now)) 0 }
-    {
-        self.taken().map(|alternative| alternative.symbol)
-    }
-
-    // The start total, stepped by its penalties from the first cell on.
-    pub(crate) fn total<S: Score>(&self) -> u64
-        ensures { result ≡ total S.Score.meaning (cells_of self.now) (chosen self.now) }
-    {
-        let penalties = self.taken().map(|alternative| alternative.penalty);
-        scores::total::<S>(&penalties[..self.line.cells().len()])
+        taken
     }
 
     // The last raised cell, or 0 where none is raised.

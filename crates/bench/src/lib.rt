@@ -5,9 +5,10 @@
 ghost use Rattle.std.specs.Prelude.{◌≡◌, ◌+◌, ◌<◌, ◌≤◌, [], ◌∷◌, ◌++◌, length, IfOk, MatchOption, ◌==◌};
 ghost use Rattle.std.specs.BinaryHeap.{heap_capacity, heap_items, heap_len};
 ghost use Rattle.std.proofs.Props.{props};
+ghost use Rattle.scores.specs.Scores.{stepped};
 ghost use Rattle.bench.specs.Order.{Ready, First};
 
-use chains::Chain;
+use chains::{Chain, Taken};
 use grammars::Grammar;
 use pages::{Line, MOST_CELLS};
 use places::{Grade, Place};
@@ -49,11 +50,20 @@ pub struct Bench<S: Score> {
     ghost ready: { Ready S.Score.meaning.no_worse (heap_items places) } by { Prim.hlevel props },
 }
 
+// The total after a row of penalties, from a total on.
+fn stepped<S: Score>(total: u64, penalties: &[u16]) -> u64
+    ensures { result ≡ stepped S.meaning total penalties.now }
+{
+    penalties
+        .iter()
+        .fold(total, |total, penalty| S::step(total, *penalty))
+}
+
 impl<S: Score> Bench<S> {
     ghost use Rattle.std.specs.List.Sorted.{IsPermutation};
     ghost use Rattle.grammars.specs.Grammars.{Sets, Lawful};
     ghost use Rattle.pages.specs.Answers.{line_of};
-    ghost use Rattle.search.specs.Chains.{text as text_of, children};
+    ghost use Rattle.search.specs.Chains.{text as text_of, penalties as penalties_of, total as total_of, children};
     ghost use Rattle.bench.specs.Chains.{cells_of, chosen};
     ghost use Rattle.bench.specs.Held.{in_use, Roomy, on_bench, Holds, Seen};
     ghost use Rattle.bench.specs.Searched.{AgreesAt, sought_of};
@@ -67,14 +77,15 @@ impl<S: Score> Bench<S> {
 
     // Puts a chain onto the bench, with its total. The room asked for is each call's own: here a place, for children as many
     // as there are cells, for a look one less.
-    fn put(&mut self, chain: Chain<'_>)
+    fn put(&mut self, chain: Chain<'_>, total: u64)
         requires holds { Holds S.Score.meaning (cells_of chain) self.old (on_bench (cells_of chain) self.old) }
+        requires total { total ≡ total_of S.Score.meaning (cells_of chain) (chosen chain) }
         requires room { length (on_bench (cells_of chain) self.old) < 4096 }
         ensures { Holds S.Score.meaning (cells_of chain.entry) self.new (on_bench (cells_of chain.entry) self.old ++ chosen chain.entry ∷ []) }
     {
         let place = Place {
             grade: Grade {
-                total: chain.total::<S>(),
+                total,
                 score: PhantomData,
             },
             ranks: Reverse(chain.ranks),
@@ -87,7 +98,9 @@ impl<S: Score> Bench<S> {
         ensures { (g : Sets) → Lawful g → AgreesAt S.Score.meaning g.allows (line_of line.now) 0 0 self.new }
     {
         self.places.clear();
-        self.put(Chain::flat(line));
+        let chain = Chain::flat(line);
+        let penalties = chain.taken().penalties;
+        self.put(chain, scores::total::<S>(&penalties[..line.cells().len()]));
     }
 
     pub fn is_empty(&self) -> bool
@@ -110,22 +123,34 @@ impl<S: Score> Bench<S> {
     }
 
     // Puts the children of a chain onto the bench: in each, one cell from the last raised one on is raised by one more.
-    // Past the first opening that the grammar does not allow there are none. The text is the parent's, which
-    // the caller has worked out already.
-    fn put_children<G: Grammar>(&mut self, grammar: &G, parent: Chain<'_>, text: &[u8])
+    // Past the first opening that the grammar does not allow there are none. Text and penalties are the parent's, which
+    // the caller has worked out already: a child's total differs from the parent's from the raised cell on.
+    fn put_children<G: Grammar>(
+        &mut self,
+        grammar: &G,
+        parent: Chain<'_>,
+        text: &[u8],
+        penalties: &[u16],
+    )
         requires holds { Holds S.Score.meaning (cells_of parent) self.old (on_bench (cells_of parent) self.old) }
         requires text { text.now ≡ text_of (cells_of parent) (chosen parent) }
+        requires penalties { penalties.now ≡ penalties_of (cells_of parent) (chosen parent) }
         requires room { length (on_bench (cells_of parent) self.old) + length (cells_of parent) ≤ 4096 }
         ensures { Holds S.Score.meaning (cells_of parent.entry) self.new (on_bench (cells_of parent.entry) self.old ++ children (G.Grammar.meaning grammar.now).allows (cells_of parent.entry) (chosen parent.entry)) }
     {
+        let first = parent.last_raised();
+        // The total of the penalties before the cell.
+        let mut before = scores::total::<S>(&penalties[..first]);
         // By the number: it is also the length of the opening before the cell.
-        for cell in parent.last_raised()..text.len() {
+        for cell in first..text.len() {
             if !grammar.is_allowed(&text[..cell]) {
                 return;
             }
             if let Some(child) = parent.raised(cell) {
-                self.put(child);
+                let total = S::step(before, child.penalty(cell));
+                self.put(child, stepped::<S>(total, &penalties[cell + 1..]));
             }
+            before = S::step(before, penalties[cell]);
         }
     }
 
@@ -141,8 +166,9 @@ impl<S: Score> Bench<S> {
             line,
             ranks: place.ranks.0,
         };
-        let text = chain.text();
-        self.put_children(grammar, chain, &text[..line.cells().len()]);
+        let Taken { text, penalties } = chain.taken();
+        let cells = line.cells().len();
+        self.put_children(grammar, chain, &text[..cells], &penalties[..cells]);
         Some(Reading {
             text,
             total: place.grade.total,

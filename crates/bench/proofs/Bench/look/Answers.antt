@@ -31,6 +31,6 @@ returns g c =
       chain = chain_in l place.ranks.0;
       rest = on_bench l is;
       chosen = taken_from s l was place (heap_items is.places) c.requires.holds told.0 told.1;
-      reads = λ i. record { text = c.text-text.ensures i; total = placed.1 i };
+      reads = λ i. record { text = c.taken.ensures.text i; total = placed.1 i };
       holds = c.put_children.ensures;
     }
