@@ -1,5 +1,5 @@
 -- A look goes on in the ranking, and a search stops at the first that is admitted. Assumes nothing.
-use Rattle.std.proofs.Common.{◌≡◌, ℕ, zero, suc, ◌+◌, ◌-◌, ◌*◌, ◌<◌, ◌≤◌, Bool, true, false, cond, List, [], ◌∷◌, ◌++◌, length, take, drop, Some, None, Option, sym, refl, ap, ◌∙◌, subst, ⊎_elim, mul_comm, mul-le-mul_left, mul-zero, mul-suc, arith}
+use Rattle.std.proofs.Common.{◌≡◌, ℕ, zero, suc, ◌+◌, ◌-◌, ◌*◌, ◌<◌, ◌≤◌, Bool, true, false, cond, Contains, List, [], ◌∷◌, ◌++◌, length, take, drop, Some, None, Option, sym, refl, ap, ◌∙◌, subst, ⊎_elim, mul_comm, mul-le-mul_left, mul-zero, mul-suc, arith}
 use Rattle.std.specs.List.{AllByRecursion}
 use Rattle.std.proofs.lemmas.List.{drop-drop, drop-take, nil_from_length}
 use Rattle.std.proofs.lemmas.Bool.{cases_lt, cond-true, cond-false}
@@ -49,6 +49,10 @@ module _ {S : Type 0} {m : Ghosts S} (s : Meaning) (laws : Laws s) (g : Sets) (l
           let h : suc n * k ≡ k * suc n = mul_comm (suc n) k in
           let i : k * suc n ≡ k * n + k = mul-suc k n in
           omega arith
+
+  -- the chains on it are live
+  pub all_live : (k granted : ℕ) (bench : Bench S m) → AgreesAt s g.allows l k granted bench → (c : Chain) → Contains (on_bench l bench) c → chains.live g.allows l c ≡ true
+  all_live k granted bench h c here = (((ranked s laws g l).exactly_live c).0 (Contains-drop k (ranking s g.allows l) c ((h.frontier.holds c).0 here).0)).1
 
   module _ (k granted : ℕ) (was is : Bench S m) (reading : Reading) (h : AgreesAt s g.allows l k granted was) (seen : Seen s g.allows l was is reading) where
     least : Least (before s l) seen.chain (on_bench l was)

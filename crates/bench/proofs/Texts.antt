@@ -1,5 +1,5 @@
 -- The text, the penalties and the last raised cell of a chain, cell by cell. Assumes nothing.
-use Rattle.std.proofs.Common.{◌≡◌, ℕ, zero, suc, ◌+◌, ◌-◌, ◌<◌, ◌≤◌, List, [], ◌∷◌, ◌++◌, map, length, get_or, take, drop, set, replicate, Some, None, Option, MatchOption, sym, refl, ap, ◌∙◌, ⊎_elim, arith}
+use Rattle.std.proofs.Common.{◌≡◌, ℕ, zero, suc, ◌+◌, ◌-◌, ◌<◌, ◌≤◌, true, List, [], ◌∷◌, ◌++◌, map, length, get_or, take, drop, set, replicate, Some, None, Option, MatchOption, sym, refl, ap, ◌∙◌, ⊎_elim, arith}
 use Rattle.std.specs.Option.{unwrap_or}
 use Rattle.std.proofs.lemmas.List.{take_all, take-append-le, length-map, get_or-map, get_or_past, get_or-set_same}
 use Rattle.std.proofs.lemmas.List.Sums.{fold-append}
@@ -8,7 +8,8 @@ use lib.Seq.{take-suc}
 use Rattle.pages.specs.declared.lines.Alternative.{Alternative}
 use Rattle.pages.specs.Shape.{Cells}
 use Rattle.scores.specs.Scores.{Meaning, stepped}
-use Rattle.search.specs.Chains.{Chain, ChainOf, no_alt, taken, text, penalties, total, last_raised, raised, or_zero}
+use Rattle.grammars.specs.Grammars.{Sets, Lawful}
+use Rattle.search.specs.Chains.{Chain, ChainOf, no_alt, taken, text, penalties, total, last_raised, opens, live, raised, or_zero}
 use Rattle.search.proofs.Raised.{Last, last_of, is_last, is_flat}
 
 pub taken_long : (line : Cells) (c : Chain) → length c ≡ length line → length (taken line c) ≡ length line
@@ -99,6 +100,14 @@ raised_within c = go (last_raised c) (last_of c)
     go : (o : Option ℕ) → ((i : ℕ) → o ≡ Some i → Last c i) → or_zero o ≤ length c
     go None h = omega arith
     go (Some i) h = let k = (h i refl).inside in omega arith
+
+-- in a live chain the opening before it is allowed
+pub live_opens : (g : Sets) → Lawful g → (line : Cells) (c : Chain) → live g.allows line c ≡ true → g.allows (take (or_zero (last_raised c)) (text line c)) ≡ true
+live_opens g lawful line c alive = go (last_raised c) alive
+  where
+    go : (o : Option ℕ) → opens g.allows (text line c) o ≡ true → g.allows (take (or_zero o) (text line c)) ≡ true
+    go None h = lawful.empty
+    go (Some i) h = h
 
 pub front : (xs ys : List ℕ) (n : ℕ) → length xs ≡ n → take n (xs ++ ys) ≡ xs
 front xs ys n e = take-append-le n xs ys (omega arith) ∙ take_all n xs (omega arith)

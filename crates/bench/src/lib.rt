@@ -2,13 +2,13 @@
 // its children in its place.
 #![tactic(auto)]
 
-ghost use Rattle.std.specs.Prelude.{◌≡◌, ◌+◌, ◌<◌, ◌≤◌, [], ◌∷◌, ◌++◌, length, IfOk, MatchOption, ◌==◌};
+ghost use Rattle.std.specs.Prelude.{◌≡◌, ℕ, ◌+◌, ◌<◌, ◌≤◌, true, false, Contains, List, [], ◌∷◌, ◌++◌, length, take, IfOk, MatchOption, ◌==◌};
 ghost use Rattle.std.specs.BinaryHeap.{heap_capacity, heap_items, heap_len};
 ghost use Rattle.std.proofs.Props.{props};
 ghost use Rattle.scores.specs.Scores.{stepped};
 ghost use Rattle.bench.specs.Order.{Ready, First};
 
-use chains::{Chain, Taken};
+use chains::Chain;
 use grammars::Grammar;
 use pages::{Line, MOST_CELLS};
 use places::{Grade, Place};
@@ -59,11 +59,33 @@ fn stepped<S: Score>(total: u64, penalties: &[u16]) -> u64
         .fold(total, |total, penalty| S::step(total, *penalty))
 }
 
+// How many cells of the text have an allowed opening before them, where the one before `first` is allowed. Every beginning of
+// an allowed opening is allowed, so the grammar is asked by halves.
+fn open_cells<G: Grammar>(grammar: &G, text: &[u8], first: usize) -> usize
+    requires first { first ≤ length text.now }
+    requires open { (G.meaning grammar.now).allows (take first text.now) ≡ true }
+    ensures within { (first ≤ result) × (result ≤ length text.now) }
+    ensures open { (cell : ℕ) → cell < result → (G.meaning grammar.now).allows (take cell text.now) ≡ true }
+    ensures shut { result < length text.now → (G.meaning grammar.now).allows (take result text.now) ≡ false }
+{
+    let mut open = first;
+    let mut shut = text.len();
+    while open + 1 < shut {
+        let middle = open + (shut - open) / 2;
+        if grammar.is_allowed(&text[..middle]) {
+            open = middle;
+        } else {
+            shut = middle;
+        }
+    }
+    shut
+}
+
 impl<S: Score> Bench<S> {
     ghost use Rattle.std.specs.List.Sorted.{IsPermutation};
     ghost use Rattle.grammars.specs.Grammars.{Sets, Lawful};
     ghost use Rattle.pages.specs.Answers.{line_of};
-    ghost use Rattle.search.specs.Chains.{text as text_of, penalties as penalties_of, total as total_of, children};
+    ghost use Rattle.search.specs.Chains.{text as text_of, penalties as penalties_of, total as total_of, live, children};
     ghost use Rattle.bench.specs.Chains.{cells_of, chosen};
     ghost use Rattle.bench.specs.Held.{in_use, Roomy, on_bench, Holds, Seen};
     ghost use Rattle.bench.specs.Searched.{AgreesAt, sought_of};
@@ -135,17 +157,14 @@ impl<S: Score> Bench<S> {
         requires holds { Holds S.Score.meaning (cells_of parent) self.old (on_bench (cells_of parent) self.old) }
         requires text { text.now ≡ text_of (cells_of parent) (chosen parent) }
         requires penalties { penalties.now ≡ penalties_of (cells_of parent) (chosen parent) }
+        requires live { live (G.Grammar.meaning grammar.now).allows (cells_of parent) (chosen parent) ≡ true }
         requires room { length (on_bench (cells_of parent) self.old) + length (cells_of parent) ≤ 4096 }
         ensures { Holds S.Score.meaning (cells_of parent.entry) self.new (on_bench (cells_of parent.entry) self.old ++ children (G.Grammar.meaning grammar.now).allows (cells_of parent.entry) (chosen parent.entry)) }
     {
         let first = parent.last_raised();
         // The total of the penalties before the cell.
         let mut before = scores::total::<S>(&penalties[..first]);
-        // By the number: it is also the length of the opening before the cell.
-        for cell in first..text.len() {
-            if !grammar.is_allowed(&text[..cell]) {
-                return;
-            }
+        for cell in first..open_cells(grammar, text, first) {
             if let Some(child) = parent.raised(cell) {
                 let total = S::step(before, child.penalty(cell));
                 self.put(child, stepped::<S>(total, &penalties[cell + 1..]));
@@ -159,6 +178,7 @@ impl<S: Score> Bench<S> {
     fn look<G: Grammar>(&mut self, grammar: &G, line: &Line) -> Option<Reading>
         requires holds { Holds S.Score.meaning (line_of line.now) self.old (on_bench (line_of line.now) self.old) }
         requires room { length (on_bench (line_of line.now) self.old) + length (line_of line.now) ≤ 4097 }
+        requires live { (c : List ℕ) → Contains (on_bench (line_of line.now) self.old) c → live (G.Grammar.meaning grammar.now).allows (line_of line.now) c ≡ true }
         ensures { MatchOption result ((on_bench (line_of line.now) self.old ≡ []) × Holds S.Score.meaning (line_of line.now) self.new []) (λ reading. Seen S.Score.meaning (G.Grammar.meaning grammar.now).allows (line_of line.now) self.old self.new reading) }
     {
         let place = self.take_best()?;
@@ -166,11 +186,16 @@ impl<S: Score> Bench<S> {
             line,
             ranks: place.ranks.0,
         };
-        let Taken { text, penalties } = chain.taken();
+        let taken = chain.taken();
         let cells = line.cells().len();
-        self.put_children(grammar, chain, &text[..cells], &penalties[..cells]);
+        self.put_children(
+            grammar,
+            chain,
+            &taken.text[..cells],
+            &taken.penalties[..cells],
+        );
         Some(Reading {
-            text,
+            text: taken.text,
             total: place.grade.total,
         })
     }

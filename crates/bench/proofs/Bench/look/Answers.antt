@@ -18,6 +18,11 @@ put_children-requires-clause-room g c =
     let fewer = (taken_from g.S.Score.meaning (line_of c.args.line.now) c.args.self.now c.in_ok-place.place (heap_items c.take_best.new.self.places) c.requires.holds told.0 told.1).fewer in
     omega (arith, c.requires.room)
 
+pub put_children-requires-clause-live : goal.put_children-requires-clause-live
+put_children-requires-clause-live g c =
+    let told = c.in_ok-place.ensures in
+    c.requires.live _ (taken_from g.S.Score.meaning (line_of c.args.line.now) c.args.self.now c.in_ok-place.place (heap_items c.take_best.new.self.places) c.requires.holds told.0 told.1).first.0
+
 pub returns : goal.returns
 returns g c =
     let s = g.S.Score.meaning in
@@ -31,6 +36,6 @@ returns g c =
       chain = chain_in l place.ranks.0;
       rest = on_bench l is;
       chosen = taken_from s l was place (heap_items is.places) c.requires.holds told.0 told.1;
-      reads = λ i. record { text = c.taken.ensures.text i; total = placed.1 i };
+      reads = λ i. record { text = c.taken-taken.ensures.text i; total = placed.1 i };
       holds = c.put_children.ensures;
     }

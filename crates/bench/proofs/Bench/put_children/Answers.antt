@@ -1,12 +1,13 @@
-use Rattle.std.proofs.Common.{◌≡◌, ◌+◌, ◌-◌, ◌<◌, true, false, [], ◌∷◌, ◌++◌, length, get_or, take, drop, sym, ap, ◌∙◌, subst, append_assoc, append-nil, arith, length-append, length-take, length-drop}
+use Rattle.std.proofs.Common.{◌≡◌, ◌+◌, ◌-◌, ◌<◌, ◌≤◌, ⊎_elim, true, [], ◌∷◌, ◌++◌, length, get_or, take, drop, sym, ap, ◌∙◌, subst, append_assoc, append-nil, arith, length-append, length-take, length-drop}
 use Rattle.std.proofs.lemmas.List.{take_all}
+use Rattle.std.proofs.lemmas.Bool.{cases_lt}
 use Rattle.pages.specs.Shape.{Cells}
 use Rattle.scores.specs.Scores.{stepped}
-use Rattle.search.specs.Chains.{text, penalties, children_below}
+use Rattle.search.specs.Chains.{text, penalties, children_below, children}
 use Rattle.search.proofs.Growth.{few_children, children_few}
 use Rattle.bench.specs.Chains.{cells_of, chosen}
 use Rattle.bench.specs.Held.{on_bench, Holds}
-use Rattle.bench.proofs.Texts.{text_fills, penalties_long, raised_within, child_total, before_next}
+use Rattle.bench.proofs.Texts.{text_fills, penalties_long, raised_within, live_opens, child_total, before_next}
 use Rattle.bench.proofs.Benches.{many_on, holds_through, holds_same, children_none, children_yes, children_no}
 use Rattle.bench.proofs.Bench.put_children.Goals as goal
 use Rattle.bench.proofs.Bench.put_children.Goals.{in-Some, in_default}
@@ -36,7 +37,7 @@ put-requires-clause-total g c =
     let chain = chosen c.args.parent in
     let s = g.S.Score.meaning in
     let i = c.loop-cell.cell in
-    let inside : i < length l = omega (arith, text_fills l chain c.args.text.now c.args.parent.of_line c.requires.text, c.loop-cell-test.true) in
+    let inside : i < length l = omega (arith, text_fills l chain c.args.text.now c.args.parent.of_line c.requires.text, c.loop-cell-test.true, c.open_cells-cell-end.ensures.within.1) in
     let told = c.in-Some.ensures in
     let rest : take (length c.args.penalties.now - (i + 1)) (drop (i + 1) c.args.penalties.now) ≡ drop (i + 1) (penalties l chain) =
     take_all _ (drop (i + 1) c.args.penalties.now) (omega (arith, length-drop (i + 1) c.args.penalties.now)) ∙ ap (drop (i + 1)) c.requires.penalties in
@@ -44,22 +45,10 @@ put-requires-clause-total g c =
     ∙ (λ j. stepped s (c.step-total.ensures j) (rest j))
     ∙ child_total s l (cells_of c.in-Some.child) chain (chosen c.in-Some.child) i c.loop-cell.before c.penalty.result c.args.parent.of_line.long inside told.1 told.2 c.loop-cell.invariant.1 c.penalty.ensures
 
-pub returns-then-not-is_allowed : goal.returns-then-not-is_allowed
-returns-then-not-is_allowed g c =
-    let l = cells_of c.args.parent in
-    let chain = chosen c.args.parent in
-    let sets = g.G.Grammar.meaning c.args.grammar.now in
-    let i = c.loop-cell.cell in
-    let long = text_fills l chain c.args.text.now c.args.parent.of_line c.requires.text in
-    let shut : sets.allows (take i (text l chain)) ≡ false = sym (rw c.requires.text at c.if-not-is_allowed.ensures) in
-    holds_same g.S.Score.meaning l c.loop-cell.self _ _
-    (ap (λ cs. on_bench l c.args.self.now ++ cs) (sym ((few_children sets (g.met.G.Grammar.laws c.args.grammar.now) l chain).stop i (omega (arith, c.loop-cell-test.true)) shut)))
-    c.loop-cell.invariant.0
-
 pub raised-requires : goal.raised-requires
 raised-requires g c =
     let l = cells_of c.args.parent in
-    omega (arith, text_fills l (chosen c.args.parent) c.args.text.now c.args.parent.of_line c.requires.text, c.loop-cell-test.true)
+    omega (arith, text_fills l (chosen c.args.parent) c.args.text.now c.args.parent.of_line c.requires.text, c.loop-cell-test.true, c.open_cells-cell-end.ensures.within.1)
 
 pub put-requires-clause-room : goal.put-requires-clause-room
 put-requires-clause-room g c =
@@ -67,7 +56,7 @@ put-requires-clause-room g c =
     let chain = chosen c.args.parent in
     let allows = (g.G.Grammar.meaning c.args.grammar.now).allows in
     let i = c.loop-cell.cell in
-    let inside : i < length l = omega (arith, text_fills l chain c.args.text.now c.args.parent.of_line c.requires.text, c.loop-cell-test.true) in
+    let inside : i < length l = omega (arith, text_fills l chain c.args.text.now c.args.parent.of_line c.requires.text, c.loop-cell-test.true, c.open_cells-cell-end.ensures.within.1) in
     omega (arith, many_on (cells_of c.in-Some.child) c.loop-cell.self, many_on l c.loop-cell.self, c.loop-cell.invariant.0.many, length-append (on_bench l c.args.self.now) (children_below allows l chain i), children_few allows l chain i, c.requires.room)
 
 pub loop-cell-preserved : goal.loop-cell-preserved
@@ -79,9 +68,9 @@ loop-cell-preserved g c =
     let s = g.S.Score.meaning in
     let bench = on_bench l c.args.self.now in
     let before = children_below allows l chain i in
-    let opened : allows (take i (text l chain)) ≡ true = sym (rw c.requires.text at c.if-not-is_allowed.ensures) in
+    let opened : allows (take i (text l chain)) ≡ true = (rw c.requires.text at c.open_cells-cell-end.ensures.open) i c.loop-cell-test.true in
     let inside : i < length (penalties l chain) =
-    omega (arith, text_fills l chain c.args.text.now c.args.parent.of_line c.requires.text, penalties_long l chain c.args.parent.of_line.long, c.loop-cell-test.true) in (
+    omega (arith, text_fills l chain c.args.text.now c.args.parent.of_line c.requires.text, penalties_long l chain c.args.parent.of_line.long, c.loop-cell-test.true, c.open_cells-cell-end.ensures.within.1) in (
       elim c.match-raised.branch [
         | in-Some w ↦
             let told = w.in-Some.ensures in
@@ -101,14 +90,34 @@ loop-cell-preserved g c =
       c.step-before.ensures ∙ ap (λ ps. s.step c.loop-cell.before (get_or ps i 0)) c.requires.penalties ∙ before_next s (penalties l chain) i c.loop-cell.before inside c.loop-cell.invariant.1,
     )
 
+pub open_cells-cell-end-requires-clause-first : goal.open_cells-cell-end-requires-clause-first
+open_cells-cell-end-requires-clause-first g c =
+    let l = cells_of c.args.parent in
+    let chain = chosen c.args.parent in
+    omega (arith, text_fills l chain c.args.text.now c.args.parent.of_line c.requires.text, c.args.parent.of_line.long, c.last_raised-first.ensures, raised_within chain)
+
+pub open_cells-cell-end-requires-clause-open : goal.open_cells-cell-end-requires-clause-open
+open_cells-cell-end-requires-clause-open g c =
+    let l = cells_of c.args.parent in
+    let chain = chosen c.args.parent in
+    let sets = g.G.Grammar.meaning c.args.grammar.now in
+    (λ j. sets.allows (take (c.last_raised-first.ensures j) (c.requires.text j))) ∙ live_opens sets (g.met.G.Grammar.laws c.args.grammar.now) l chain c.requires.live
+
 pub returns : goal.returns
 returns g c =
     let l = cells_of c.args.parent in
     let chain = chosen c.args.parent in
-    let allows = (g.G.Grammar.meaning c.args.grammar.now).allows in
+    let sets = g.G.Grammar.meaning c.args.grammar.now in
     let long = text_fills l chain c.args.text.now c.args.parent.of_line c.requires.text in
-    let start = raised_within chain in
-    let end : c.loop-cell.cell ≡ length l = omega (arith, c.loop-cell-test.false, c.loop-cell.auto.cell-end, c.last_raised-first.ensures, c.args.parent.of_line.long) in
+    let told = c.open_cells-cell-end.ensures in
+    let end : c.loop-cell.cell ≡ c.open_cells-cell-end.result = omega (arith, c.loop-cell-test.false, c.loop-cell.auto.cell-end, told.within.0) in
+    let all : children_below sets.allows l chain c.open_cells-cell-end.result ≡ children sets.allows l chain =
+    ⊎_elim
+    (λ (less : c.open_cells-cell-end.result < length c.args.text.now).
+    sym ((few_children sets (g.met.G.Grammar.laws c.args.grammar.now) l chain).stop c.open_cells-cell-end.result (omega (arith, told.within.1)) ((rw c.requires.text at told.shut) (subst (λ t. c.open_cells-cell-end.result < length t) c.requires.text less))))
+    (λ (full : length c.args.text.now ≤ c.open_cells-cell-end.result).
+    ap (children_below sets.allows l chain) (let e : c.open_cells-cell-end.result ≡ length l = omega (arith, told.within.1) in e))
+    (cases_lt c.open_cells-cell-end.result (length c.args.text.now)) in
     holds_same g.S.Score.meaning l c.loop-cell.self _ _
-    (ap (λ n. on_bench l c.args.self.now ++ children_below allows l chain n) end)
+    (ap (λ n. on_bench l c.args.self.now ++ children_below sets.allows l chain n) end ∙ ap (λ cs. on_bench l c.args.self.now ++ cs) all)
     c.loop-cell.invariant.0

@@ -5,7 +5,7 @@ use Rattle.pages.specs.Answers.{line_of}
 use Rattle.search.specs.Chains.{ranking}
 use Rattle.bench.specs.Searched.{AgreesAt, admitted, due, came_to}
 use Rattle.bench.proofs.Lines.{as_many}
-use Rattle.bench.proofs.Searches.{room_left, look_gives, look_ends, agrees_empty, passed_more, here_in, none_passes, passes_first}
+use Rattle.bench.proofs.Searches.{room_left, all_live, look_gives, look_ends, agrees_empty, passed_more, here_in, none_passes, passes_first}
 use Rattle.bench.proofs.Bench.seek.Goals as goal
 
 pub look-requires-clause-room : goal.look-requires-clause-room
@@ -13,6 +13,12 @@ look-requires-clause-room g c =
     let line = c.args.line.now in
     room_left g.S.Score.meaning g.met.S.Score.laws (g.G.Grammar.meaning c.args.grammar.now) (g.met.G.Grammar.laws c.args.grammar.now) (line_of line) line.sound
     c.loop-k.k c.args.granted c.loop-k.self c.loop-k.invariant.0 (omega (arith, c.loop-k-test.true, c.requires.agrees.within))
+
+pub look-requires-clause-live : goal.look-requires-clause-live
+look-requires-clause-live g c =
+    let line = c.args.line.now in
+    all_live g.S.Score.meaning g.met.S.Score.laws (g.G.Grammar.meaning c.args.grammar.now) (g.met.G.Grammar.laws c.args.grammar.now) (line_of line) line.sound
+    c.loop-k.k c.args.granted c.loop-k.self c.loop-k.invariant.0
 
 pub returns-in_default : goal.returns-in_default
 returns-in_default g c =
