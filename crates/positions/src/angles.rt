@@ -119,7 +119,7 @@ impl Axis {
         ensures value { result ≡ is_angle self text.now }
         ensures written { Decides result (Written self text.now) }
     {
-        self.read(text).is_some()
+        text.len() == self.width() && AngleText { axis: self, text }.has_form()
     }
 
     // Fills a place as wide as the axis's texts, by hand as `write_number` does.
