@@ -1,4 +1,3 @@
 pub mod Lines
-pub mod Blanks
 pub mod Lists
 pub mod Settings

@@ -1,9 +1,11 @@
-// The lines of a script: a call to a line, its words parted by blanks.
+// The lines of a script: a call to a line.
 ghost use Rattle.std.specs.Prelude.{◌≡◌, Some, map, IfOk, MatchOption};
+ghost use Rattle.linewords.specs.Words.{words_of};
 ghost use Rattle.replay.specs.declared.script.Command.{Command};
-ghost use Rattle.replay.specs.Scripts.{IsCall, IsFault, IsRead, words_of};
+ghost use Rattle.replay.specs.Scripts.{IsCall, IsFault, IsRead};
 ghost use Rattle.replay.specs.Words.{command_fault_words};
 
+use linewords::words_of;
 use std::alloc::{AllocError, Global};
 use std::error::Error;
 use std::fmt;
@@ -92,13 +94,6 @@ fn command_of<'a>(words: &[&'a str]) -> Result<Command<'a>, CommandFault>
     ensures { IsRead (map (λ w. w.now) words.now) result }
 {
     call_of(words).ok_or_else(|| fault_of(words))
-}
-
-// The words of a line, which blanks part.
-fn words_of(heap: Global, text: &str) -> Result<Vec<&str>, AllocError>
-    ensures { IfOk result (λ ws. map (λ w. w.now) ws.items ≡ words_of text.now) }
-{
-    text.split_ascii_whitespace().collect(heap)
 }
 
 // The call of a line, or why the line is none. Its words are collected first, so memory can be wanting.

@@ -1,5 +1,4 @@
 pub mod Begun
-pub mod Blanks
 pub mod Found
 pub mod Lists
 pub mod Replies

@@ -3,7 +3,7 @@ use Rattle.std.specs.Prelude.{◌≡◌, ℕ, ◌⊎◌, List, [], ◌∷◌, So
 use Rattle.pages.specs.Shape.{Cells}
 use Rattle.scores.specs.Scores.{sum_meaning}
 use Rattle.descriptions.specs.Kinds.{sheet_between}
-use Rattle.wheelhouse.specs.Answers.{Writes}
+use Rattle.linewords.specs.Words.{Writes}
 use Rattle.reader.specs.Views.{View, view, loaded}
 use Rattle.reader.specs.Calls.{loading, granting, granted_more}
 use Rattle.wheelhouse.specs.declared.desk.Desk.{Desk}

@@ -1,8 +1,10 @@
-// What the owner answers to a reading: a line, its words parted by blanks.
-ghost use Rattle.std.specs.Prelude.{◌≡◌, map, IfOk, MatchOption};
+// What the owner answers to a reading, on a line.
+ghost use Rattle.std.specs.Prelude.{map, IfOk, MatchOption};
+ghost use Rattle.linewords.specs.Words.{words_of};
 ghost use Rattle.wheelhouse.specs.declared.answers.Answer.{Answer};
-ghost use Rattle.wheelhouse.specs.Answers.{IsAnswer, IsRead, words_of};
+ghost use Rattle.wheelhouse.specs.Answers.{IsAnswer, IsRead};
 
+use linewords::words_of;
 use std::alloc::{AllocError, Global};
 
 #[derive(Clone, Copy, Debug, PartialEq, Eq)]
@@ -27,13 +29,6 @@ fn answer_of(words: &[&str]) -> Option<Answer>
         ["q"] => Some(Answer::Leave),
         _ => None,
     }
-}
-
-// The words of a line, which blanks part.
-fn words_of(heap: Global, line: &str) -> Result<Vec<&str>, AllocError>
-    ensures { IfOk result (λ ws. map (λ w. w.now) ws.items ≡ words_of line.now) }
-{
-    line.split_ascii_whitespace().collect(heap)
 }
 
 // The answer of a line. Its words are collected first, so memory can be wanting.

@@ -1,9 +1,10 @@
 // The desk at which a line is decided on: its reader, and what the owner sees of it.
 ghost use Rattle.std.specs.Prelude.{◌≡◌, ℕ, IfOk, OnErr, Option, string_bytes};
+ghost use Rattle.linewords.specs.Words.{words_of};
 ghost use Rattle.reader.specs.Views.{view};
 ghost use Rattle.reader.specs.Calls.{granting};
 ghost use Rattle.wheelhouse.specs.declared.answers.Answer.{Answer};
-ghost use Rattle.wheelhouse.specs.Answers.{IsRead, words_of};
+ghost use Rattle.wheelhouse.specs.Answers.{IsRead};
 ghost use Rattle.wheelhouse.specs.Desks.{Ready, Opens, Looks, GoesOn, Grants, room_of, up_to};
 ghost use Rattle.wheelhouse.specs.Replies.{told_words, Asked, asked_words, Confirms, GrantsMore, Answers};
 

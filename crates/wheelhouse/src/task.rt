@@ -1,7 +1,7 @@
 // What the arguments ask for.
 ghost use Rattle.std.specs.Prelude.{◌≡◌, map, Ok, IfOk};
 ghost use Rattle.descriptions.specs.Kinds.{sheet_between};
-ghost use Rattle.wheelhouse.specs.Answers.{Writes};
+ghost use Rattle.linewords.specs.Words.{Writes};
 ghost use Rattle.wheelhouse.specs.Tasks.{Asks};
 
 use anyhow::{Context, bail};

@@ -11,7 +11,7 @@ use Rattle.std.proofs.lemmas.List.{nil_from_length, get_or_default}
 use Rattle.std.proofs.lemmas.List.Elements.{All-tail}
 use Rattle.std.proofs.lemmas.List.Splits.{slice_split_none, slice_split_at, slice_split-cons_yes}
 use Rattle.std.proofs.lemmas.Str.{NoCharPasses-byte}
-use Rattle.replay.specs.Scripts.{words_of}
+use Rattle.linewords.specs.Words.{words_of}
 
 -- blanks in front part nothing
 passed : (gap line : List ℕ) → AllPass is_ascii_whitespace gap → words_of (gap ++ line) ≡ words_of line

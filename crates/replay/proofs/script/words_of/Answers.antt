@@ -1,6 +1,0 @@
-use Rattle.std.proofs.lemmas.Iterator.Consumers.{map_from_collect}
-use Rattle.replay.proofs.Blanks.{words_read}
-use Rattle.replay.proofs.script.words_of.Goals as goal
-
-pub returns : goal.returns
-returns c = map_from_collect _ c.collect.ensures.ran (words_read c.args.text.now c.split_ascii_whitespace.ensures.text)
