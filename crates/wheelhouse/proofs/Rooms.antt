@@ -5,7 +5,7 @@ use Rattle.std.proofs.lemmas.Nat.{le-div}
 use Rattle.std.proofs.Math.Nat.{div-mul-le_self, mul-le-mul_left}
 use Rattle.pages.specs.Shape.{Cells}
 use Rattle.reader.specs.declared.refusals.Refusal.TheVariants as refusal
-use Rattle.reader.specs.Views.{View, loaded}
+use Rattle.reader.specs.Views.{View}
 use Rattle.reader.specs.Calls.{granting, granting_to, cells_of}
 use Rattle.wheelhouse.specs.Desks.{room_of, up_to}
 
@@ -38,13 +38,3 @@ room_law v l line low n =
     ap (λ o. granting_to o v.granted n) line
     ∙ ap (λ b. cond b (Ok tt) (Err refusal.Grant)) (judged (length l) v.granted n low)
     ∙ ap (λ o. up_to (4095 / max (cells_of o) 1 - v.granted) n) (sym line)
-
--- the room of a line is granted whole at first
-pub first_granted : (l : Cells) → 1 ≤ length l → length l ≤ 24 → granting (loaded l) (room_of (loaded l)) ≡ Ok tt
-first_granted l low few =
-    let whole : max (length l) 1 ≡ length l = omega (arith, low) in
-    let some : 1 ≤ 4095 / length l = le-div 1 4095 (length l) (omega (arith, low)) (omega (arith, few)) in
-    let room : 1 ≤ room_of (loaded l) = omega (arith, some, ap (λ k. 4095 / k) whole) in
-    room_law (loaded l) l refl low (room_of (loaded l))
-    ∙ ap (λ b. cond (b && leb (room_of (loaded l)) (room_of (loaded l))) (Ok tt) (Err refusal.Grant)) (le-leb 1 (room_of (loaded l)) room)
-    ∙ ap (λ b. cond b (Ok tt) (Err refusal.Grant)) (le-leb (room_of (loaded l)) (room_of (loaded l)) (omega arith))
