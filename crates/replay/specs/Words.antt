@@ -1,5 +1,5 @@
 -- The words of the program.
-use Rattle.std.specs.Prelude.{ℕ, List, [], ◌∷◌, ◌++◌, take, drop, Some, None, Ok, Err, Option, Result, codes, decimal}
+use Rattle.std.specs.Prelude.{ℕ, List, [], ◌∷◌, ◌++◌, take, Some, None, Ok, Err, Option, Result, codes, decimal}
 use Rattle.std.specs.Borrow.{Bor}
 use Rattle.std.specs.Str.Lossy.{utf8_lossy}
 use Rattle.reports.specs.Words.{page_words}
@@ -7,12 +7,12 @@ use Rattle.reader.specs.Refusals.{number_of, explained}
 use Rattle.reader.specs.declared.calls.Outcome.TheVariants.{Found, Spent, Exhausted}
 use Rattle.reader.specs.declared.refusals.Refusal.{Refusal}
 use Rattle.reader.specs.declared.refusals.Refusal.TheVariants as refusal
-use Rattle.runs.specs.declared.rows.Part.{Part}
 use Rattle.runs.specs.declared.rows.Call.{Call}
 use Rattle.runs.specs.declared.rows.Call.TheVariants as call
 use Rattle.runs.specs.declared.rows.Row.{Row}
 use Rattle.runs.specs.declared.rows.Answer.{Answer}
 use Rattle.runs.specs.declared.rows.Answer.TheVariants.{Loaded, Granted, Next, Reported}
+use Rattle.runs.specs.Runs.{cut}
 use Rattle.replay.specs.declared.script.CommandFault.{CommandFault}
 use Rattle.replay.specs.declared.script.CommandFault.TheVariants as fault
 use Rattle.descriptions.specs.Words.{fault_words}
@@ -49,17 +49,13 @@ answer_words page place (Ok (Reported r)) =
     ++ (codes " cells, " ++ (decimal r.granted ++ (codes " granted, " ++ (decimal r.looked ++ (codes " looked at, " ++ (decimal r.handed ++ (codes " handed out, " ++ (decimal r.places ++ codes " places in use"))))))))
 answer_words page place (Err r) = codes "refused " ++ (decimal (number_of r) ++ (codes ", " ++ reason_words page r))
 
--- a part of lent bytes, cut off at their end
-abbrev pub lent : List ℕ → Part → List ℕ
-lent bytes p = take p.length (drop p.start bytes)
-
--- the page of a load, and the place of a next
+-- the page of a load, and the place of a next, among the bytes lent
 abbrev pub page_of : List ℕ → Call → List ℕ
-page_of pages (call.Load p n) = lent pages p
+page_of pages (call.Load p n) = cut pages p
 page_of pages c = []
 
 abbrev pub place_of : List ℕ → Call → List ℕ
-place_of places (call.Next p) = lent places p
+place_of places (call.Next p) = cut places p
 place_of places c = []
 
 -- the line of a call that was made: how it was written, and what it answered

@@ -1,6 +1,7 @@
 // What a call answered, in words.
 ghost use Rattle.std.specs.Prelude.{◌≡◌, IfOk, string_bytes};
-ghost use Rattle.replay.specs.Words.{reason_words, answer_words, lent, page_of, place_of, call_line};
+ghost use Rattle.runs.specs.Runs.{cut};
+ghost use Rattle.replay.specs.Words.{reason_words, answer_words, page_of, place_of, call_line};
 
 use reader::{Outcome, Refusal, Report};
 use reports::explain;
@@ -9,7 +10,7 @@ use std::alloc::{AllocError, Global};
 
 // The bytes of a part, cut off at the end as `run` cuts them.
 fn lent(bytes: &[u8], part: Part) -> &[u8]
-    ensures { result.now ≡ lent bytes.now part }
+    ensures { result.now ≡ cut bytes.now part }
 {
     let rest = &bytes[part.start.min(bytes.len())..];
     &rest[..part.length.min(rest.len())]
