@@ -3,8 +3,8 @@ use Rattle.std.proofs.Common.{◌≡◌, ℕ, List, Ok, Err, Result, MatchResult
 use Rattle.grammars.specs.declared.sheet.Sheet.{Sheet}
 use Rattle.descriptions.specs.declared.CornerFault.{CornerFault}
 use Rattle.descriptions.specs.Kinds.{sheet_between}
-use Rattle.replay.specs.declared.setting.Scoring.{Scoring}
-use Rattle.replay.specs.declared.setting.Setting.{Setting}
+use Rattle.settings.specs.declared.Scoring.{Scoring}
+use Rattle.settings.specs.declared.Setting.{Setting}
 use Rattle.replay.specs.declared.setting.SettingFault.{SettingFault}
 use Rattle.replay.specs.Settings.{Asks, IsUnasked, asking, set_by, setting_between}
 

@@ -1,28 +1,15 @@
--- What a setting asks for: the meaning of its score and the sets of its grammar; and which arguments ask for a setting.
--- Assumes nothing.
+-- Which arguments ask for a setting. Assumes nothing.
 use Rattle.std.specs.Prelude.{◌≡◌, ℕ, List, [], ◌∷◌, codes, Ok, Err, Result}
-use Rattle.scores.specs.Scores.{Meaning, sum_meaning, shares_meaning}
-use Rattle.grammars.specs.Grammars.{Sets}
-use Rattle.grammars.specs.Dates.{date_sets}
 use Rattle.grammars.specs.declared.sheet.Sheet.{Sheet}
 use Rattle.descriptions.specs.declared.CornerFault.{CornerFault}
-use Rattle.descriptions.specs.Kinds.{charted, sheet_between}
-use Rattle.replay.specs.declared.setting.Scoring.{Scoring}
-use Rattle.replay.specs.declared.setting.Scoring.TheVariants as scoring
-use Rattle.replay.specs.declared.setting.Wanted.{Wanted}
-use Rattle.replay.specs.declared.setting.Wanted.TheVariants.{Dates, Positions}
-use Rattle.replay.specs.declared.setting.Setting.{Setting}
+use Rattle.descriptions.specs.Kinds.{sheet_between}
+use Rattle.settings.specs.declared.Scoring.{Scoring}
+use Rattle.settings.specs.declared.Scoring.TheVariants as scoring
+use Rattle.settings.specs.declared.Wanted.{Wanted}
+use Rattle.settings.specs.declared.Wanted.TheVariants.{Dates, Positions, OnSheet}
+use Rattle.settings.specs.declared.Setting.{Setting}
 use Rattle.replay.specs.declared.setting.SettingFault.{SettingFault}
 use Rattle.replay.specs.declared.setting.SettingFault.TheVariants.{Corner, Arguments}
-
-abbrev pub meaning_of : Scoring → Meaning
-meaning_of scoring.Sum = sum_meaning
-meaning_of scoring.Shares = shares_meaning
-
--- the dates, or the positions on a sheet
-abbrev pub sets_of : Wanted → Sets
-sets_of Dates = date_sets
-sets_of (Positions t) = charted t
 
 -- the words that name a score; for the sum there are none
 abbrev pub naming : Scoring → List (List ℕ)
@@ -33,10 +20,11 @@ naming scoring.Shares = codes "shares" ∷ []
 abbrev pub asking : List ℕ → List ℕ → Scoring → List (List ℕ)
 asking southwest northeast s = codes "sheet" ∷ southwest ∷ northeast ∷ naming s
 
--- the words ws ask for these readings, scored so
+-- the words ws ask for these readings, scored so; positions without a sheet cannot be asked for
 abbrev pub Asks : List (List ℕ) → Wanted → Scoring → Type 0
 Asks ws Dates s = ws ≡ naming s
-Asks ws (Positions t) s = (southwest : List ℕ) × (northeast : List ℕ) × (ws ≡ asking southwest northeast s) × (sheet_between southwest northeast ≡ Ok t)
+Asks ws Positions s = ⊥
+Asks ws (OnSheet t) s = (southwest : List ℕ) × (northeast : List ℕ) × (ws ≡ asking southwest northeast s) × (sheet_between southwest northeast ≡ Ok t)
 
 -- the words ws ask for no setting: their corners make no sheet, or they have neither form
 abbrev pub IsUnasked : List (List ℕ) → SettingFault → Type 0
@@ -47,7 +35,7 @@ IsUnasked ws Arguments =
 
 -- the setting of the positions between two corners, or what is wrong with the corners
 abbrev pub set_by : Scoring → Result Sheet CornerFault → Result Setting SettingFault
-set_by s (Ok t) = Ok (record { wanted = Positions t; scoring = s })
+set_by s (Ok t) = Ok (record { wanted = OnSheet t; scoring = s })
 set_by s (Err f) = Err (Corner f)
 
 abbrev pub setting_between : List ℕ → List ℕ → Scoring → Result Setting SettingFault

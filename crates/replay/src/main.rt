@@ -11,8 +11,9 @@ mod words;
 
 use crate::play::Play;
 use crate::script::{Command, read_command};
-use crate::setting::{Setting, setting_of};
+use crate::setting::setting_of;
 use anyhow::Context;
+use settings::Setting;
 use std::env;
 use std::fs::File;
 use std::io::Read;

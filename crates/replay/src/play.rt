@@ -2,14 +2,14 @@
 ghost use Rattle.std.specs.Prelude.{◌≡◌, ℕ, List, ◌++◌, length, replicate, IfOk, OnOk, MatchResult, string_bytes};
 ghost use Rattle.runs.specs.declared.rows.Call.TheVariants as Calls;
 ghost use Rattle.runs.specs.Runs.{Runs};
+ghost use Rattle.settings.specs.Settings.{meaning_of, sets_of};
 ghost use Rattle.replay.specs.Plays.{Fresh, Added, behind};
-ghost use Rattle.replay.specs.Settings.{meaning_of, sets_of};
 ghost use Rattle.replay.specs.Words.{call_lines};
 
-use crate::setting::Setting;
 use crate::words::line;
 use pages::MOST_CELLS;
 use runs::{Call, Part, Row};
+use settings::Setting;
 use std::alloc::{AllocError, Global};
 use std::io;
 use std::io::Read;

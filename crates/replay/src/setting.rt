@@ -1,37 +1,12 @@
-// What a script is played under: what the readings are to be, and how they are scored.
+// Which setting the arguments ask for.
 ghost use Rattle.std.specs.Prelude.{◌≡◌, Some, map, MatchResult};
-ghost use Rattle.runs.specs.Runs.{Runs};
-ghost use Rattle.replay.specs.Settings.{meaning_of, sets_of, Asks, IsUnasked, setting_between};
+ghost use Rattle.replay.specs.Settings.{Asks, IsUnasked, setting_between};
 ghost use Rattle.replay.specs.Words.{setting_fault_words};
 
 use descriptions::{CornerFault, read_sheet};
-use grammars::date::Date;
-use grammars::sheet::Sheet;
-use grammars::{Both, Grammar, Then};
-use positions::Axis;
-use runs::{Row, run};
-use scores::{Shares, Sum};
-use std::alloc::{AllocError, Global};
+use settings::{Scoring, Setting, Wanted};
 use std::error::Error;
 use std::fmt;
-
-#[derive(Clone, Copy, Debug, PartialEq, Eq)]
-pub enum Scoring {
-    Sum,
-    Shares,
-}
-
-#[derive(Clone, Copy)]
-pub enum Wanted {
-    Dates,
-    Positions(Sheet),
-}
-
-#[derive(Clone, Copy)]
-pub struct Setting {
-    pub wanted: Wanted,
-    pub scoring: Scoring,
-}
 
 // Why arguments ask for no setting.
 #[derive(Clone, Copy, Debug, PartialEq, Eq)]
@@ -74,7 +49,7 @@ fn setting_between(
 {
     match read_sheet(southwest.as_bytes(), northeast.as_bytes()) {
         Ok(sheet) => Ok(Setting {
-            wanted: Wanted::Positions(sheet),
+            wanted: Wanted::OnSheet(sheet),
             scoring,
         }),
         Err(fault) => Err(SettingFault::Corner(fault)),
@@ -99,50 +74,5 @@ pub fn setting_of(words: &[&str]) -> Result<Setting, SettingFault>
             setting_between(southwest, northeast, Scoring::Shares)
         }
         _ => Err(SettingFault::Arguments),
-    }
-}
-
-// The run under a grammar that is given, by the score that is named.
-fn run_scored<G: Grammar + Drop>(
-    heap: Global,
-    grammar: G,
-    scoring: Scoring,
-    pages: &[u8],
-    places: &mut [u8],
-    rows: &mut [Row],
-) -> Result<(), AllocError>
-    ensures law { MatchResult result (λ _. Runs (meaning_of scoring) (G.meaning grammar) pages.now places.old rows.old rows.new places.new) (λ _. (rows.new ≡ rows.old) × (places.new ≡ places.old)) }
-{
-    match scoring {
-        Scoring::Sum => run(heap, grammar, Sum, pages, places, rows),
-        Scoring::Shares => run(heap, grammar, Shares, pages, places, rows),
-    }
-}
-
-impl Setting {
-    // The run of the rows under the setting. The law of `runs` is passed on whole.
-    pub fn run(
-        &self,
-        heap: Global,
-        pages: &[u8],
-        places: &mut [u8],
-        rows: &mut [Row],
-    ) -> Result<(), AllocError>
-        ensures law { MatchResult result (λ _. Runs (meaning_of self.now.scoring) (sets_of self.now.wanted) pages.now places.old rows.old rows.new places.new) (λ _. (rows.new ≡ rows.old) × (places.new ≡ places.old)) }
-    {
-        match self.wanted {
-            Wanted::Dates => run_scored(heap, Date, self.scoring, pages, places, rows),
-            Wanted::Positions(sheet) => {
-                let positions = Both {
-                    one: Then {
-                        cut: 8,
-                        head: Axis::Latitude,
-                        tail: Axis::Longitude,
-                    },
-                    other: sheet,
-                };
-                run_scored(heap, positions, self.scoring, pages, places, rows)
-            }
-        }
     }
 }

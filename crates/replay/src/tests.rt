@@ -2,7 +2,8 @@
 
 use crate::play::Play;
 use crate::script::{Command, CommandFault, read_command};
-use crate::setting::{Scoring, Setting, Wanted, setting_of};
+use crate::setting::setting_of;
+use settings::{Scoring, Setting, Wanted};
 use std::test::Fail;
 
 // Eight cells: 0; 1 at 0 or 2 at 55; 0; 1 at 0 or 2 at 30; 2; 0; 0; 0 at 0 or 1 at 30. Every chain of them is a date.

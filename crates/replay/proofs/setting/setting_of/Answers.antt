@@ -1,5 +1,5 @@
 use Rattle.std.proofs.Common.{Bor, ℕ, ◌≡◌, List, [], ◌∷◌, map, ap, ◌∙◌, arith, slice_index_or, codes}
-use Rattle.replay.specs.declared.setting.Scoring.TheVariants.{Sum, Shares}
+use Rattle.settings.specs.declared.Scoring.TheVariants.{Sum, Shares}
 use Rattle.replay.specs.Settings.{asking}
 use Rattle.replay.proofs.Lists.{three, four}
 use Rattle.replay.proofs.Settings.{settled}
