@@ -2,8 +2,8 @@
 ghost use Rattle.std.specs.Prelude.{Some, refl};
 ghost use Rattle.std.specs.Ordering.{is_eq, on};
 ghost use Rattle.std.specs.Cmp.{on_total, eq_by_cmp_equiv, partial_equiv_from_equiv, partial_order_from_agreeing_total};
-ghost use Rattle.bench.specs.Order.{by_total, standing};
-ghost use Rattle.bench.specs.OrderLemmas.{totals, places};
+ghost use Rattle.bench.specs.Order.{by_total};
+ghost use Rattle.bench.specs.OrderLemmas.{totals};
 
 use crate::ranks::Ranks;
 use scores::Score;
@@ -11,51 +11,12 @@ use std::cmp::{Ordering, Reverse};
 use std::marker::PhantomData;
 
 // A chain with its total. Greater is what stands before: the better total, and with totals equally good the lower rank
-// in the first cell where the two differ. By hand, so that totals that differ are told apart without a call.
+// in the first cell where the two differ.
 #[derive(Drop)]
+#[derive_where(PartialEq, Eq, PartialOrd, Ord; S: Score)]
 pub(crate) struct Place<S> {
     pub(crate) grade: Grade<S>,
     pub(crate) ranks: Reverse<Ranks>,
-}
-
-impl<S: Score> PartialEq for Place<S> {
-    ghost eq = { λ x y. is_eq (standing S.Score.meaning.no_worse x y) };
-
-    ghost laws = { partial_equiv_from_equiv (eq_by_cmp_equiv (places S.Score.laws)) };
-
-    fn eq(&self, other: &Place<S>) -> bool {
-        self.cmp(other).is_eq()
-    }
-}
-
-impl<S: Score> Eq for Place<S> {
-    ghost laws = { eq_by_cmp_equiv (places S.Score.laws) };
-}
-
-impl<S: Score> PartialOrd for Place<S> {
-    ghost partial_cmp = { λ x y. Some (standing S.Score.meaning.no_worse x y) };
-
-    ghost laws = { partial_order_from_agreeing_total (standing S.Score.meaning.no_worse) (places S.Score.laws) (λ _ _. refl) (λ _ _. refl) };
-
-    fn partial_cmp(&self, other: &Place<S>) -> Option<Ordering> {
-        Some(self.cmp(other))
-    }
-}
-
-impl<S: Score> Ord for Place<S> {
-    ghost cmp = { standing S.Score.meaning.no_worse };
-
-    ghost total = { places S.Score.laws };
-
-    ghost matches_partial_cmp = { λ _ _. refl };
-
-    ghost matches_eq = { λ _ _. refl };
-
-    fn cmp(&self, other: &Place<S>) -> Ordering {
-        self.grade
-            .cmp(&other.grade)
-            .then_with(|| self.ranks.cmp(&other.ranks))
-    }
 }
 
 // A total. Greater is what the score says is better, so the order is written by hand.
