@@ -1,6 +1,6 @@
 use Rattle.std.proofs.Common.{Bor, ℕ, ◌≡◌, ◌≤◌, List, [], ◌∷◌, length, drop, map, ap, ◌∙◌, arith, slice_index_or}
 use Rattle.replay.specs.Scripts.{Begins}
-use Rattle.replay.proofs.Lists.{some}
+use Rattle.linewords.proofs.Lists.{some}
 use Rattle.replay.proofs.script.fault_of.Goals as goal
 
 abbrev nothing : Bor (List ℕ)

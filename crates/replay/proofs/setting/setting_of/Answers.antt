@@ -1,7 +1,7 @@
 use Rattle.std.proofs.Common.{Bor, ℕ, ◌≡◌, List, [], ◌∷◌, map, ap, ◌∙◌, arith, slice_index_or, codes}
 use Rattle.settings.specs.declared.Scoring.TheVariants.{Sum, Shares}
 use Rattle.replay.specs.Settings.{asking}
-use Rattle.replay.proofs.Lists.{three, four}
+use Rattle.linewords.proofs.Lists.{three, four}
 use Rattle.replay.proofs.Settings.{settled}
 use Rattle.replay.proofs.setting.setting_of.Goals as goal
 

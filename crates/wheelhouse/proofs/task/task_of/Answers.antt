@@ -1,5 +1,5 @@
 use Rattle.std.proofs.Common.{Bor, ℕ, List, [], map, ap, arith, slice_index_or}
-use Rattle.wheelhouse.proofs.Lists.{four, five}
+use Rattle.linewords.proofs.Lists.{four, five}
 use Rattle.wheelhouse.proofs.task.task_of.Goals as goal
 
 abbrev nothing : Bor (List ℕ)

@@ -1,4 +1,4 @@
--- Lists of at least one, of three and of four. Assumes nothing.
+-- Lists of at least one, and of three, four and five: words as they are told apart by their number. Assumes nothing.
 use Rattle.std.proofs.Common.{◌≡◌, ◌<◌, ◌≤◌, List, [], ◌∷◌, length, get_or, drop, refl, ap, arith}
 
 pub some : {A : Type 0} (d : A) (xs : List A) → 1 ≤ length xs → xs ≡ get_or xs 0 d ∷ drop 1 xs
@@ -16,3 +16,8 @@ pub four : {A : Type 0} (d : A) (xs : List A) → 4 ≤ length xs → length xs 
     → xs ≡ get_or xs 0 d ∷ get_or xs 1 d ∷ get_or xs 2 d ∷ get_or xs 3 d ∷ []
 four d [] low high = absurd (omega arith)
 four d (a ∷ xs) low high = ap (λ ys. a ∷ ys) (three d xs (omega arith) (omega arith))
+
+pub five : {A : Type 0} (d : A) (xs : List A) → 5 ≤ length xs → length xs < 6
+    → xs ≡ get_or xs 0 d ∷ get_or xs 1 d ∷ get_or xs 2 d ∷ get_or xs 3 d ∷ get_or xs 4 d ∷ []
+five d [] low high = absurd (omega arith)
+five d (a ∷ xs) low high = ap (λ ys. a ∷ ys) (four d xs (omega arith) (omega arith))
