@@ -1,17 +1,17 @@
-//! A small random generator, so that a run with the same seed repeats.
+//! A small random generator, so that what is drawn by a number is drawn again by it.
 
 pub struct Random {
     state: u64,
 }
 
 impl Random {
-    pub fn new(seed: u64) -> Random {
-        Random { state: seed }
+    pub fn new(draw: u64) -> Random {
+        Random { state: draw }
     }
 
     /// A generator of its own for one case, so that the case can be made again without those before it.
-    pub fn of_case(seed: u64, kind: u64, case: u64) -> Random {
-        let mut first = Random::new(seed ^ kind.wrapping_mul(0xD1B5_4A32_D192_ED03));
+    pub fn of_case(draw: u64, kind: u64, case: u64) -> Random {
+        let mut first = Random::new(draw ^ kind.wrapping_mul(0xD1B5_4A32_D192_ED03));
         Random::new(first.number() ^ case.wrapping_mul(0x9E37_79B9_7F4A_7C15))
     }
 

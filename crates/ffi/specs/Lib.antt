@@ -1,5 +1,4 @@
-pub mod Lists
+pub mod Answers
 pub mod Pages
-pub mod Positions
 pub mod Rows
 pub mod Runs

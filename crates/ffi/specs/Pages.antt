@@ -1,4 +1,4 @@
--- What judging a page answers, and what it says of the page. Assumes nothing.
+-- What judging a page says of it. Assumes nothing.
 use Rattle.std.specs.Prelude.{ℕ, ◌-◌, ◌^◌, Some, None, Ok, Err, Option, Result, length}
 use Rattle.pages.specs.declared.faults.PageFault.{PageFault}
 use Rattle.pages.specs.Shape.{Lines}
@@ -12,11 +12,6 @@ none = 2 ^ 64 - 1
 abbrev pub or_none : Option ℕ → ℕ
 or_none (Some n) = n
 or_none None = none
-
--- 0 for a good page, else the number of its fault
-abbrev pub page_answer : Result Lines PageFault → ℕ
-page_answer (Ok lines) = 0
-page_answer (Err f) = (page_returns f).number
 
 -- how many lines a good page has; of a bad one the byte place of its fault, and the line and the cell that it was met in
 abbrev pub checked_of : Result Lines PageFault → Checked

@@ -5,7 +5,8 @@ use Rattle.reader.specs.declared.calls.Outcome.{Outcome}
 use Rattle.reader.specs.declared.calls.Outcome.TheVariants.{Found, Spent, Exhausted}
 use Rattle.reader.specs.declared.calls.Report.{Report}
 use Rattle.reader.specs.declared.refusals.Refusal.{Refusal}
-use Rattle.reader.specs.declared.refusals.Refusal.TheVariants.{Page, Score, NoLine, Grant, Place, LineNumber}
+use Rattle.reader.specs.declared.refusals.Refusal.TheVariants.{Page}
+use Rattle.reader.specs.Refusals.{number_of}
 use Rattle.runs.specs.declared.rows.Call.{Call}
 use Rattle.runs.specs.declared.rows.Call.TheVariants as call
 use Rattle.runs.specs.declared.rows.Answer.{Answer}
@@ -46,14 +47,14 @@ next_came Exhausted = only 5
 abbrev pub report_came : Report → Came
 report_came r = record (only 6) { cells = r.cells; granted = r.granted; looked = r.looked; handed = r.handed; places = r.places }
 
--- 7 refused, with the number of the refusal, and of a bad page the byte place, the line and the cell of its fault
+-- 7 refused, with the number of the refusal
+abbrev pub refused_by : Refusal → Came
+refused_by r = record (only 7) { refused = number_of r }
+
+-- and of a bad page also the byte place, the line and the cell of its fault
 abbrev pub refusal_came : Refusal → Came
-refusal_came (Page f) = record (only 7) { refused = (page_returns f).number; place = (page_returns f).place; line = or_none (page_line f); cell = or_none (page_cell f) }
-refusal_came Score = record (only 7) { refused = 7 }
-refusal_came NoLine = record (only 7) { refused = 8 }
-refusal_came Grant = record (only 7) { refused = 9 }
-refusal_came Place = record (only 7) { refused = 10 }
-refusal_came LineNumber = record (only 7) { refused = 13 }
+refusal_came (Page f) = record (refused_by (Page f)) { place = (page_returns f).place; line = or_none (page_line f); cell = or_none (page_cell f) }
+refusal_came r = refused_by r
 
 -- 0 not made, 1 loaded, 2 granted
 abbrev pub came_of : Option (Result Answer Refusal) → Came

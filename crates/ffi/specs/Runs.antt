@@ -2,6 +2,7 @@
 use Rattle.std.specs.Prelude.{◌≡◌, ℕ, Bool, cond, ◌⊎◌, List, map, Some, None, Ok, Err, Option, Result, ◌==◌}
 use Rattle.std.specs.List.{list_all}
 use Rattle.grammars.specs.declared.Refusal.TheVariants.{Table}
+use Rattle.grammars.specs.Grammars.{refusal}
 use Rattle.grammars.specs.declared.sheet.Sheet.{Sheet}
 use Rattle.grammars.specs.Sheets.{holds}
 use Rattle.runs.specs.Runs.{Runs}
@@ -55,7 +56,7 @@ judging s rows = judged_by (scoring_of s) (wanted_of s) (all_calls rows)
 
 abbrev pub trouble_number : Trouble → ℕ
 trouble_number trouble.Unknown = 101
-trouble_number (trouble.Table r) = 12
+trouble_number (trouble.Table r) = refusal r
 
 -- nothing is written
 abbrev pub Untouched : List ℕ → List Row → List ℕ → List Row → Type 0

@@ -1,7 +1,8 @@
 // Lists the dates of a page.
 ghost use Rattle.std.specs.Prelude.{◌≡◌, ◌⊎◌, ◌==◌, cond};
 ghost use Rattle.lists.specs.Calls.{listing};
-ghost use Rattle.ffi.specs.Lists.{list_answer, list_written};
+ghost use Rattle.pages.specs.Writing.{place_number};
+ghost use Rattle.ffi.specs.Answers.{answered, given_or};
 
 use crate::answers::{DONE, MEMORY};
 use grammars::date::Date;
@@ -18,9 +19,9 @@ pub extern "C" fn markbook_list_dates(
     place: &mut [u8],
     written: &mut usize,
 ) -> u8
-    ensures answer { (result ≡ 100) ⊎ (result ≡ list_answer (listing page.now place.old).0) }
+    ensures answer { (result ≡ 100) ⊎ (result ≡ answered (λ _. place_number) (listing page.now place.old).0) }
     ensures place { place.new ≡ cond (result == 100) place.old (listing page.now place.old).1 }
-    ensures written { written.new ≡ cond (result == 100) written.old (list_written written.old (listing page.now place.old).0) }
+    ensures written { written.new ≡ cond (result == 100) written.old (given_or written.old (listing page.now place.old).0) }
 {
     let Ok(mut reader) = Reader::new(heap, Date, Sum) else {
         return MEMORY;

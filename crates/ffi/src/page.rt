@@ -1,7 +1,9 @@
 // Judges a page.
 ghost use Rattle.std.specs.Prelude.{◌≡◌};
 ghost use Rattle.pages.specs.Reading.{read_page};
-ghost use Rattle.ffi.specs.Pages.{page_answer, checked_of};
+ghost use Rattle.pages.specs.Faults.{page_returns};
+ghost use Rattle.ffi.specs.Answers.{answered};
+ghost use Rattle.ffi.specs.Pages.{checked_of};
 
 use crate::answers::{DONE, NONE};
 use lists::count_lines;
@@ -19,7 +21,7 @@ pub struct Checked {
 // Judges a page, and says what is wrong with it and where.
 #[unsafe(no_mangle)]
 pub extern "C" fn markbook_check_page(page: &[u8], checked: &mut Checked) -> u8
-    ensures answer { result ≡ page_answer (read_page page.now) }
+    ensures answer { result ≡ answered (λ f. (page_returns f).number) (read_page page.now) }
     ensures checked { checked.new ≡ checked_of (read_page page.now) }
 {
     match count_lines(page) {

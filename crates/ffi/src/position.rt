@@ -1,7 +1,7 @@
 // Reads and writes positions.
 ghost use Rattle.std.specs.Prelude.{◌≡◌, ◌++◌, drop, is_ok, length, if◌then◌else◌};
-ghost use Rattle.positions.specs.Positions.{reading, writing, position_text};
-ghost use Rattle.ffi.specs.Positions.{read_answer, latitude_after, longitude_after, write_answer, written_after};
+ghost use Rattle.positions.specs.Positions.{refusal, reading, writing, position_text};
+ghost use Rattle.ffi.specs.Answers.{answered, given_or};
 
 use crate::answers::DONE;
 use positions::{read_position, write_position};
@@ -9,9 +9,9 @@ use positions::{read_position, write_position};
 // Reads a position text as two numbers.
 #[unsafe(no_mangle)]
 pub extern "C" fn markbook_read_position(text: &[u8], latitude: &mut i32, longitude: &mut i32) -> u8
-    ensures answer { result ≡ read_answer (reading text.now) }
-    ensures latitude { latitude.new ≡ latitude_after latitude.old (reading text.now) }
-    ensures longitude { longitude.new ≡ longitude_after longitude.old (reading text.now) }
+    ensures answer { result ≡ answered refusal (reading text.now) }
+    ensures latitude { latitude.new ≡ (given_or (latitude.old, longitude.old) (reading text.now)).0 }
+    ensures longitude { longitude.new ≡ (given_or (latitude.old, longitude.old) (reading text.now)).1 }
 {
     match read_position(text) {
         Ok(pair) => {
@@ -30,9 +30,9 @@ pub extern "C" fn markbook_write_position(
     place: &mut [u8],
     written: &mut usize,
 ) -> u8
-    ensures answer { result ≡ write_answer (writing latitude longitude (length place.old)) }
+    ensures answer { result ≡ answered refusal (writing latitude longitude (length place.old)) }
     ensures place { place.new ≡ (if is_ok (writing latitude longitude (length place.old)) then position_text latitude longitude ++ drop 17 place.old else place.old) }
-    ensures written { written.new ≡ written_after written.old (writing latitude longitude (length place.old)) }
+    ensures written { written.new ≡ given_or written.old (writing latitude longitude (length place.old)) }
 {
     match write_position((latitude, longitude), place) {
         Ok(count) => {

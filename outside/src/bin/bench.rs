@@ -1,6 +1,6 @@
 //! Times the search of the C library, the plain search and, where it is given, OpenFst, on the same lines.
 //!
-//!     bench [--seed N] [--lines N] [--rounds N] [--openfst PROGRAM] [--file FILE]
+//!     bench [--draw N] [--lines N] [--rounds N] [--openfst PROGRAM] [--file FILE]
 //!
 //! Every reading and every number of looks of the library is first compared with those of the plain search. OpenFst's program
 //! is given a file of the lines.
@@ -29,7 +29,7 @@ mod linked {
     use std::process::{Command, ExitCode};
 
     struct Options {
-        seed: u64,
+        draw: u64,
         lines: usize,
         rounds: usize,
         openfst: Option<String>,
@@ -45,11 +45,11 @@ mod linked {
             }
         };
         println!(
-            "seed {}, {} lines of each kind, medians of {} rounds, times of the processor in microseconds",
-            options.seed, options.lines, options.rounds
+            "draw {}, {} lines of each kind, medians of {} rounds, times of the processor in microseconds",
+            options.draw, options.lines, options.rounds
         );
         println!("a run without rows, so the making of a reader: {:.2}", empty_run(options.rounds));
-        let mut random = Random::new(options.seed);
+        let mut random = Random::new(options.draw);
         let easy = Lot::dates("easy", &mut random, options.lines, 3);
         let hard = Lot::dates("hard", &mut random, options.lines, 8);
 
@@ -87,13 +87,13 @@ mod linked {
     }
 
     fn options() -> Result<Options, String> {
-        let mut options = Options { seed: 20_022_023, lines: 1_000, rounds: 15, openfst: None, file: "lines.txt".into() };
+        let mut options = Options { draw: 20_022_023, lines: 1_000, rounds: 15, openfst: None, file: "lines.txt".into() };
         let mut words = std::env::args().skip(1);
         while let Some(word) = words.next() {
             let mut value = || words.next().ok_or(format!("{word} wants a value"));
             let number = |word: String| word.parse::<usize>().map_err(|_| format!("{word} is no number"));
             match word.as_str() {
-                "--seed" => options.seed = number(value()?)? as u64,
+                "--draw" => options.draw = number(value()?)? as u64,
                 "--lines" => options.lines = number(value()?)?.max(1),
                 "--rounds" => options.rounds = number(value()?)?.max(1),
                 "--openfst" => options.openfst = Some(value()?),

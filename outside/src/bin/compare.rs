@@ -1,6 +1,6 @@
 //! Compares the corrector's C library with the reference, over random cases.
 //!
-//!     compare [--seed N] [--cases N] [--from N] [--kind pages|lists|positions|sets|runs]
+//!     compare [--draw N] [--cases N] [--from N] [--kind pages|lists|positions|sets|runs]
 //!     compare --self
 //!
 //! The cases of each kind but the sets grow with --cases. --from begins with a later case, so that one can be made again alone.
@@ -9,11 +9,11 @@
 use outside::examples::EXAMPLES;
 use std::process::ExitCode;
 
-const SEED: u64 = 20_022_023;
+const DRAW: u64 = 20_022_023;
 const CASES: usize = 20_000;
 
 struct Options {
-    seed: u64,
+    draw: u64,
     cases: usize,
     from: usize,
     kind: Option<String>,
@@ -37,13 +37,13 @@ fn main() -> ExitCode {
 }
 
 fn options() -> Result<Options, String> {
-    let mut options = Options { seed: SEED, cases: CASES, from: 0, kind: None, own: false };
+    let mut options = Options { draw: DRAW, cases: CASES, from: 0, kind: None, own: false };
     let mut words = std::env::args().skip(1);
     while let Some(word) = words.next() {
         let mut value = || words.next().ok_or(format!("{word} wants a value"));
         match word.as_str() {
             "--self" => options.own = true,
-            "--seed" => options.seed = number(&value()?)?,
+            "--draw" => options.draw = number(&value()?)?,
             "--cases" => options.cases = number(&value()?)? as usize,
             "--from" => options.from = number(&value()?)? as usize,
             "--kind" => options.kind = Some(value()?),
@@ -89,14 +89,14 @@ fn compare(options: &Options) -> (usize, usize) {
         ("sets", 0, sets::compare),
         ("runs", options.cases, runs::compare),
     ];
-    println!("seed {}, cases {}", options.seed, options.cases);
+    println!("draw {}, cases {}", options.draw, options.cases);
     let (mut passed, mut failed) = (0, 0);
     for (name, cases, compare) in kinds {
         if options.kind.as_ref().is_some_and(|kind| kind != name) {
             continue;
         }
         let mut tally = Tally::default();
-        compare(options.seed, options.from..options.from + cases, &mut tally);
+        compare(options.draw, options.from..options.from + cases, &mut tally);
         tally.tell(name);
         passed += tally.compared - tally.failed;
         failed += tally.failed;

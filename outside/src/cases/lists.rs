@@ -14,9 +14,9 @@ const PLACES: [usize; 8] = [2_048, 2_048, 2_048, 2_049, 3_000, 2_047, 0, 1];
 /// Bytes before and behind the place that no call may touch.
 const MARGIN: usize = 64;
 
-pub fn compare(seed: u64, cases: std::ops::Range<usize>, tally: &mut Tally) {
+pub fn compare(draw: u64, cases: std::ops::Range<usize>, tally: &mut Tally) {
     for case in cases {
-        let mut random = Random::of_case(seed, KIND, case as u64);
+        let mut random = Random::of_case(draw, KIND, case as u64);
         let page = page(&mut random);
         let place = if random.chance(3) { random.below(2_048) } else { random.pick(&PLACES) };
         judge(&page, place, case, tally);

@@ -1,6 +1,6 @@
 //! Cases, and what the library and the reference say of them.
 //!
-//! Each kind of case has a module. Its cases are numbered, and each is made from the seed, the kind and its number.
+//! Each kind of case has a module. Its cases are numbered, and each is made from the number of the draw, the kind and its own number.
 
 #[cfg(linked)]
 pub mod lists;

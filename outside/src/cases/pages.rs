@@ -11,12 +11,12 @@ use crate::reference::page::{check_page, written_parts, Part};
 const KIND: u64 = 1;
 const PARTS: [Part; 6] = [Part::Lines, Part::Cells, Part::Alternatives, Part::Symbol, Part::High, Part::Low];
 
-pub fn compare(seed: u64, cases: std::ops::Range<usize>, tally: &mut Tally) {
+pub fn compare(draw: u64, cases: std::ops::Range<usize>, tally: &mut Tally) {
     for page in [&[][..], &[0], &[1], &[40], &[41], &[255]] {
         judge(page, 0, tally);
     }
     for case in cases {
-        let mut random = Random::of_case(seed, KIND, case as u64);
+        let mut random = Random::of_case(draw, KIND, case as u64);
         one_case(&mut random, case, tally);
     }
 }

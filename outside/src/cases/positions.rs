@@ -42,7 +42,7 @@ const TEXTS: [&str; 28] = [
     " 012345N00412345W",
 ];
 
-pub fn compare(seed: u64, cases: std::ops::Range<usize>, tally: &mut Tally) {
+pub fn compare(draw: u64, cases: std::ops::Range<usize>, tally: &mut Tally) {
     for text in TEXTS {
         judge_text(text.as_bytes(), 0, tally);
     }
@@ -61,7 +61,7 @@ pub fn compare(seed: u64, cases: std::ops::Range<usize>, tally: &mut Tally) {
         }
     }
     for case in cases {
-        let mut random = Random::of_case(seed, KIND, case as u64);
+        let mut random = Random::of_case(draw, KIND, case as u64);
         let text = text(&mut random);
         judge_text(&text, case, tally);
         let (latitude, longitude) = pair(&mut random);

@@ -17,9 +17,9 @@ const KIND: u64 = 4;
 /// Bytes before and behind the places, and rows before and behind the rows, that no call may touch.
 const MARGIN: usize = 32;
 
-pub fn compare(seed: u64, cases: Range<usize>, tally: &mut Tally) {
+pub fn compare(draw: u64, cases: Range<usize>, tally: &mut Tally) {
     for case in cases {
-        let mut random = Random::of_case(seed, KIND, case as u64);
+        let mut random = Random::of_case(draw, KIND, case as u64);
         let made = Case::random(&mut random);
         judge(&made, case, tally);
     }
