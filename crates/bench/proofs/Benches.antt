@@ -1,22 +1,27 @@
 -- What a bench holds after a place is put onto it or taken from it. Assumes nothing.
-use Rattle.std.proofs.Common.{◌≡◌, ℕ, zero, suc, ◌+◌, ◌<◌, ◌≤◌, Bool, true, false, cond, not, ◌&&◌, ◌||◌, eqb, ltb, leb, ◌⊎◌, Contains, List, [], ◌∷◌, ◌++◌, map, length, get_or, take, heap_items, sym, refl, ap, ◌∙◌, subst, inl, inr, ⊎_elim, arith, length-append, length-take, get_or-take}
+use Rattle.std.proofs.Common.{◌≡◌, ℕ, zero, suc, ◌+◌, ◌<◌, ◌≤◌, Bool, true, false, cond, not, ◌&&◌, ◌||◌, eqb, ltb, leb, ◌⊎◌, Contains, List, [], ◌∷◌, ◌++◌, map, length, get_or, take, drop, heap_items, sym, refl, ap, ◌∙◌, subst, inl, inr, ⊎_elim, Some, None, Option, IfSome, IfNone, arith, length-append, length-take, get_or-take}
 use Rattle.std.specs.List.Sorted.{IsPermutation}
 use Rattle.std.specs.List.{AllByRecursion}
 use Rattle.std.proofs.lemmas.List.Sorted.{length_permutation}
 use Rattle.std.proofs.ByRecursion.{all_shuffled}
-use Rattle.std.proofs.lemmas.List.{length-map, take-take, append-nil}
-use Rattle.std.proofs.lemmas.Bool.{and_parts, and_left, and_from, and_right, or_cases, ltb-true, eqb-true, le-leb, lt-leb, lt-ltb, le-ltb, cond-false, cases_Bool, false≢true}
+use Rattle.std.proofs.lemmas.List.{length-map, take-take, append-nil, nil_from_length}
+use Rattle.std.proofs.lemmas.Bool.{and_parts, and_left, and_from, and_right, or_cases, ltb-true, eqb-true, le-leb, lt-leb, lt-ltb, le-ltb, cond-false, cases_Bool, cases_lt, false≢true}
 use Rattle.scores.specs.Scores.{Meaning}
 use Rattle.scores.specs.declared.Score.{Ghosts}
-use Rattle.grammars.specs.Grammars.{Texts}
+use Rattle.grammars.specs.Grammars.{Texts, Sets, Lawful}
 use Rattle.pages.specs.Shape.{Cells}
-use Rattle.search.specs.Chains.{Chain, ChainOf, text, total, lower, before, last_raised, or_zero, raised, may_raise, children_below}
+use Rattle.search.specs.Chains.{Chain, ChainOf, text, total, lower, before, last_raised, or_zero, raised, may_raise, children_below, children}
 use Rattle.bench.specs.declared.places.Place.{Place}
+use Rattle.bench.specs.declared.ranks.Ranks.{Ranks}
 use Rattle.bench.specs.declared.Bench.{Bench}
 use Rattle.bench.specs.Order.{First, Before, Lower}
 use Rattle.bench.specs.Ranks.{ranks_of, chain_in}
-use Rattle.bench.specs.Held.{in_use, Placed, on_bench, once, times, Holds, Taken}
-use Rattle.bench.proofs.Counts.{once_self, times_append, times_shuffled, times_contains}
+use Rattle.bench.specs.Held.{in_use, Placed, on_bench, beside, times, Holds, Taken}
+use Rattle.search.proofs.Members.{Contains-first}
+use Rattle.search.proofs.Growth.{few_children}
+use Rattle.bench.proofs.Counts.{times_append, times_shuffled}
+use Rattle.bench.proofs.Orders.{begins}
+use Rattle.bench.proofs.Texts.{text_fills}
 
 -- what is in use, as chains
 pub many_on : {S : Type 0} {m : Ghosts S} (l : Cells) (bench : Bench S m) → length (on_bench l bench) ≡ in_use bench
@@ -30,41 +35,73 @@ module _ {S : Type 0} {m : Ghosts S} (s : Meaning) (l : Cells) where
   pub holds_self : (bench : Bench S m) (cs : List Chain) → Holds s l bench cs → Holds s l bench (on_bench l bench)
   holds_self bench cs h = record { ready = h.ready; room = h.room; places = h.places; chains = λ c. refl; many = refl }
 
-  -- the chains that a bench held go on being held
-  pub holds_through : (was is : Bench S m) (cs more : List Chain) → Holds s l was cs → Holds s l is (on_bench l was ++ more) → Holds s l is (cs ++ more)
-  holds_through was is cs more h k = record {
-    ready = k.ready;
-    room = k.room;
-    places = k.places;
-    chains = λ c. k.chains c ∙ times_append c (on_bench l was) more ∙ ap (λ n. n + times c more) (h.chains c) ∙ sym (times_append c cs more);
-    many = k.many ∙ length-append (on_bench l was) more ∙ ap (λ n. n + length more) h.many ∙ sym (length-append cs more);
-  }
-
   pub holds_same : (bench : Bench S m) (cs ds : List Chain) → cs ≡ ds → Holds s l bench cs → Holds s l bench ds
   holds_same bench cs ds e h = subst (Holds s l bench) e h
 
+-- those behind the first place, as chains
+pub behind_first : {S : Type 0} (l : Cells) (xs : List (Place S)) → map (chain_at l) (drop 1 xs) ≡ drop 1 (map (chain_at l) xs)
+behind_first l [] = refl
+behind_first l (x ∷ xs) = refl
+
+all_behind : {A : Type 0} (P : A → Type 0) (xs : List A) → AllByRecursion P xs → AllByRecursion P (drop 1 xs)
+all_behind P [] h = tt
+all_behind P (x ∷ xs) h = h.1
+
+begins_with : {S : Type 0} (l : Cells) (xs : List (Place S)) (x : Place S) → xs ≡ x ∷ drop 1 xs → map (chain_at l) xs ≡ chain_at l x ∷ drop 1 (map (chain_at l) xs)
+begins_with l xs x e = ap (map (chain_at l)) e ∙ ap (λ cs. chain_at l x ∷ cs) (behind_first l xs)
+
 -- of a bench in the score's own meaning
 module _ {S : Type 0} {m : Ghosts S} (l : Cells) where
-  pub holds_put : (was is : Bench S m) (p : Place S) → Holds m.meaning l was (on_bench l was)
-      → IsPermutation (p ∷ heap_items was.places) (heap_items is.places) → ChainOf l (chain_in l p.ranks.0) → p.grade.total ≡ total m.meaning l (chain_in l p.ranks.0)
-      → Holds m.meaning l is (on_bench l was ++ chain_in l p.ranks.0 ∷ [])
-  holds_put was is p h shuffled chain sum =
-      let xs = heap_items was.places in
-      let ys = heap_items is.places in
-      record {
-        ready = is.ready;
-        room = is.roomy;
-        places = all_shuffled (Placed m.meaning l) (p ∷ xs) ys shuffled ((chain, sum), h.places);
-        chains = λ c. times_shuffled c (chain_at l) (p ∷ xs) ys shuffled ∙ swapped c ∙ sym (times_append c (on_bench l was) (chain_at l p ∷ []));
-        many = length-map ys (chain_at l) ∙ length_permutation (p ∷ xs) ys shuffled ∙ (let e = length-map xs (chain_at l) in let f = length-append (on_bench l was) (chain_at l p ∷ []) in counted e f);
-      }
-    where
-      swapped : (c : Chain) → once c (chain_at l p) + times c (on_bench l was) ≡ times c (on_bench l was) + (once c (chain_at l p) + 0)
-      swapped c = omega arith
+  -- one more, beside places that are kept
+  module _ (kept : List (Place S)) (placed : AllByRecursion (Placed m.meaning l) kept) (is : Bench S m) (p : Place S) (shuffled : IsPermutation (p ∷ kept) (heap_items is.places)) where
+    holds_more : ChainOf l (chain_at l p) → p.grade.total ≡ total m.meaning l (chain_at l p) → Holds m.meaning l is (map (chain_at l) kept ++ chain_at l p ∷ [])
+    holds_more chain sum =
+        let ys = heap_items is.places in
+        let cs = map (chain_at l) kept in
+        record {
+          ready = is.ready;
+          room = is.roomy;
+          places = all_shuffled (Placed m.meaning l) (p ∷ kept) ys shuffled ((chain, sum), placed);
+          chains = λ c. let e = times_shuffled c (chain_at l) (p ∷ kept) ys shuffled in let f = times_append c cs (chain_at l p ∷ []) in omega (arith, e, f);
+          many = omega (arith, length-map ys (chain_at l), length_permutation (p ∷ kept) ys shuffled, length-map kept (chain_at l), length-append cs (chain_at l p ∷ []));
+        }
 
-      counted : length (map (chain_at l) (heap_items was.places)) ≡ length (heap_items was.places) → length (on_bench l was ++ chain_at l p ∷ []) ≡ length (on_bench l was) + 1
-          → suc (length (heap_items was.places)) ≡ length (on_bench l was ++ chain_at l p ∷ [])
-      counted e f = omega arith
+    -- a chain with its total
+    pub holds_chain : (r : Ranks) → p.ranks.0 ≡ r → ChainOf l (chain_in l r) → p.grade.total ≡ total m.meaning l (chain_in l r) → Holds m.meaning l is (map (chain_at l) kept ++ chain_in l r ∷ [])
+    holds_chain r e chain sum =
+        subst (λ q. Holds m.meaning l is (map (chain_at l) kept ++ chain_in l q ∷ [])) e
+        (holds_more (subst (λ q. ChainOf l (chain_in l q)) (sym e) chain) (sum ∙ ap (λ q. total m.meaning l (chain_in l q)) (sym e)))
+
+  module _ (was is : Bench S m) (h : Holds m.meaning l was (on_bench l was)) where
+    -- a chain is put beside all others, or in place of the first
+    module _ (p : Place S) (r : Ranks) (e : p.ranks.0 ≡ r) (chain : ChainOf l (chain_in l r)) (sum : p.grade.total ≡ total m.meaning l (chain_in l r)) where
+      pub holds_put : IsPermutation (p ∷ heap_items was.places) (heap_items is.places) → Holds m.meaning l is (on_bench l was ++ chain_in l r ∷ [])
+      holds_put shuffled = holds_chain (heap_items was.places) h.places is p shuffled r e chain sum
+
+      pub holds_put_first : IsPermutation (p ∷ drop 1 (heap_items was.places)) (heap_items is.places) → Holds m.meaning l is (drop 1 (on_bench l was) ++ chain_in l r ∷ [])
+      holds_put_first shuffled =
+          subst (λ cs. Holds m.meaning l is (cs ++ chain_in l r ∷ [])) (behind_first l (heap_items was.places))
+          (holds_chain (drop 1 (heap_items was.places)) (all_behind (Placed m.meaning l) (heap_items was.places) h.places) is p shuffled r e chain sum)
+
+    -- or the first is taken off
+    pub holds_removed : (M : Type 0) (r : Option (Place S)) → IfNone r (in_use was ≡ 0) → IfNone r ((heap_items is.places ≡ heap_items was.places) × M)
+        → IfSome r (λ x. x ≡ get_or (heap_items was.places) 0 x) → IfSome r (λ x. IsPermutation (heap_items was.places) (x ∷ heap_items is.places)) → Holds m.meaning l is (drop 1 (on_bench l was))
+    holds_removed M None none stays at shuffled =
+        let nothing : heap_items was.places ≡ [] = nil_from_length (heap_items was.places) (sym was.places.data.ok.0 ∙ none) in
+        let same : on_bench l is ≡ drop 1 (on_bench l was) = ap (map (chain_at l)) (stays.0 ∙ nothing) ∙ sym (ap (λ xs. drop 1 (map (chain_at l) xs)) nothing) in
+        record { ready = is.ready; room = is.roomy; places = subst (AllByRecursion (Placed m.meaning l)) (sym stays.0) h.places; chains = λ c. ap (times c) same; many = ap length same }
+    holds_removed M (Some x) none stays at shuffled =
+        let xs = heap_items was.places in
+        let ys = heap_items is.places in
+        let some : suc (length ys) ≡ length xs = length_permutation xs (x ∷ ys) shuffled in
+        let all : on_bench l was ≡ chain_at l x ∷ drop 1 (on_bench l was) = begins_with l xs x (begins xs x (omega (arith, some)) at) in
+        record {
+          ready = is.ready;
+          room = is.roomy;
+          places = (all_shuffled (Placed m.meaning l) xs (x ∷ ys) shuffled h.places).1;
+          chains = λ c. let e = times_shuffled c (chain_at l) xs (x ∷ ys) shuffled in let f = ap (times c) all in omega (arith, e, f);
+          many = omega (arith, some, length-map ys (chain_at l), length-map xs (chain_at l), ap length all);
+        }
 
 -- the lower rank in the first cell where they differ
 lower_at : (a b : Chain) → lower a b ≡ true → Lower a b
@@ -118,37 +155,51 @@ module _ {S : Type 0} (s : Meaning) (l : Cells) where
       (λ h. h) (cases_Bool (before s l d (chain_in l x.ranks.0)))
   unbeaten_in x ex (y ∷ ys) first all d (suc k, w, e) = unbeaten_in x ex ys first.1 all.1 d (k, omega arith, e)
 
-module _ {S : Type 0} {m : Ghosts S} (s : Meaning) (l : Cells) where
-  -- what is taken from a bench
-  pub taken_from : (was : Bench S m) (x : Place S) (rest : List (Place S)) → Holds s l was (on_bench l was) → First s.no_worse x (heap_items was.places)
-      → IsPermutation (heap_items was.places) (x ∷ rest) → Taken s l (on_bench l was) (chain_in l x.ranks.0) (map (chain_at l) rest)
-  taken_from was x rest h first shuffled =
-      let xs = heap_items was.places in
-      let placed = all_shuffled (Placed s l) xs (x ∷ rest) shuffled h.places in
-      let others : (d : Chain) → times d (on_bench l was) ≡ once d (chain_at l x) + times d (map (chain_at l) rest) = λ d. sym (times_shuffled d (chain_at l) xs (x ∷ rest) shuffled) in
+module _ {S : Type 0} {m : Ghosts S} (s : Meaning) (l : Cells) (was : Bench S m) (x : Place S) (h : Holds s l was (on_bench l was)) (begins : heap_items was.places ≡ x ∷ drop 1 (heap_items was.places)) where
+  -- what the first place of a bench has
+  pub placed_first : Placed s l x
+  placed_first = (subst (AllByRecursion (Placed s l)) begins h.places).0
+
+  -- it stands before all others, and those behind it are left
+  pub taken_first : First s.no_worse x (heap_items was.places) → Taken s l (on_bench l was) (chain_in l x.ranks.0) (drop 1 (on_bench l was))
+  taken_first first =
+      let all = begins_with l (heap_items was.places) x begins in
       record {
-        first = (times_contains (chain_at l x) (on_bench l was) (let here = others (chain_at l x) in let one = once_self (chain_at l x) in omega arith), unbeaten_in s l x placed.0.1 xs first h.places);
-        others = others;
-        fewer = length-map xs (chain_at l) ∙ sym (length_permutation xs (x ∷ rest) shuffled) ∙ (let e = length-map rest (chain_at l) in counted e);
+        first = (subst (λ cs. Contains cs (chain_at l x)) (sym all) (Contains-first (chain_at l x) (drop 1 (on_bench l was))), unbeaten_in s l x placed_first.1 (heap_items was.places) first h.places);
+        others = λ d. ap (times d) all;
+        fewer = omega (arith, ap length all);
       }
-    where
-      counted : length (map (chain_at l) rest) ≡ length rest → suc (length rest) ≡ 1 + length (map (chain_at l) rest)
-      counted e = omega arith
 
-  pub placed_first : (was : Bench S m) (x : Place S) (rest : List (Place S)) → Holds s l was (on_bench l was) → IsPermutation (heap_items was.places) (x ∷ rest)
-      → ChainOf l (chain_in l x.ranks.0) × (x.grade.total ≡ total s l (chain_in l x.ranks.0))
-  placed_first was x rest h shuffled = (all_shuffled (Placed s l) (heap_items was.places) (x ∷ rest) shuffled h.places).0
+-- A bench while its first chain is exchanged for its children: beside the parent, where that still stands there, it holds the
+-- chains cs, each as often.
+pub record Exchanging {S : Type 0} {m : Ghosts S} (s : Meaning) (l : Cells) (is_first : Bool) (bench : Bench S m) (cs : List Chain) : Type 0 where
+  pub holds : Holds s l bench (on_bench l bench)
+  pub some : 0 < in_use bench
+  pub chains : (c : Chain) → times c (beside is_first l bench) ≡ times c cs
+  pub many : length (beside is_first l bench) ≡ length cs
 
-module _ {S : Type 0} {m : Ghosts S} (l : Cells) where
-  -- and what is left on it
-  pub holds_rest : (was is : Bench S m) (x : Place S) → Holds m.meaning l was (on_bench l was) → IsPermutation (heap_items was.places) (x ∷ heap_items is.places) → Holds m.meaning l is (on_bench l is)
-  holds_rest was is x h shuffled = record {
-    ready = is.ready;
-    room = is.roomy;
-    places = (all_shuffled (Placed m.meaning l) (heap_items was.places) (x ∷ heap_items is.places) shuffled h.places).1;
-    chains = λ c. refl;
-    many = refl;
-  }
+module _ {S : Type 0} {m : Ghosts S} (s : Meaning) (l : Cells) where
+  pub exchanging_none : (bench : Bench S m) → Holds s l bench (on_bench l bench) → 0 < in_use bench → Exchanging s l true bench (drop 1 (on_bench l bench))
+  exchanging_none bench h some = record { holds = h; some = some; chains = λ c. refl; many = refl }
+
+  pub exchanging_same : {f f' : Bool} {b b' : Bench S m} {cs ds : List Chain} → f' ≡ f → b' ≡ b → cs ≡ ds → Exchanging s l f b cs → Exchanging s l f' b' ds
+  exchanging_same {f} {b' = b'} {cs = cs} e q p h = subst (Exchanging s l _ b') p (subst (λ g. Exchanging s l g b' cs) (sym e) (subst (λ d. Exchanging s l f d cs) (sym q) h))
+
+  -- a child more
+  pub exchanging_more : (is_first : Bool) (was is : Bench S m) (cs : List Chain) (c : Chain) → Exchanging s l is_first was cs → Holds s l is (beside is_first l was ++ c ∷ []) → Exchanging s l false is (cs ++ c ∷ [])
+  exchanging_more is_first was is cs c e h =
+      let old = beside is_first l was in
+      record {
+        holds = holds_self s l is (old ++ c ∷ []) h;
+        some = omega (arith, many_on l is, h.many, length-append old (c ∷ []));
+        chains = λ d. h.chains d ∙ times_append d old (c ∷ []) ∙ ap (λ n. n + times d (c ∷ [])) (e.chains d) ∙ sym (times_append d cs (c ∷ []));
+        many = h.many ∙ length-append old (c ∷ []) ∙ ap (λ n. n + 1) e.many ∙ sym (length-append cs (c ∷ []));
+      }
+
+  -- all of them, and the parent taken off where it still stood there
+  pub exchanged : (is_first : Bool) (bench : Bench S m) {cs ds : List Chain} → Exchanging s l is_first bench cs → cs ≡ ds → (end : Bench S m) → Holds s l end (beside is_first l bench) → Holds s l end ds
+  exchanged is_first bench e same end h =
+      holds_same s l end _ _ same (record { ready = h.ready; room = h.room; places = h.places; chains = λ c. h.chains c ∙ e.chains c; many = h.many ∙ e.many })
 
 -- the children that raise one of the first cells, one cell more
 module _ (allows : Texts) (l : Cells) (c : Chain) where
@@ -172,3 +223,14 @@ module _ (allows : Texts) (l : Cells) (c : Chain) where
       children_next i
       ∙ ap (λ b. children_below allows l c i ++ cond b (raised c i ∷ []) []) (and_right (leb (or_zero (last_raised c)) i) _ (and_right (allows (take i (text l c))) _ (le-ltb _ _ less)))
       ∙ append-nil (children_below allows l c i)
+
+-- all children have been met where the cells end, and at the first opening that is not allowed
+pub all_met : (g : Sets) → Lawful g → (l : Cells) {c : Chain} {t : List ℕ} {cell end : ℕ} → ChainOf l c → t ≡ text l c → cell ≡ end → end ≤ length t → (end < length t → g.allows (take end t) ≡ false)
+    → children_below g.allows l c cell ≡ children g.allows l c
+all_met g lawful l {c} {t} {cell} {end} chain is met within shut =
+    let long = text_fills l c t chain is in
+    ap (children_below g.allows l c) met
+    ∙ ⊎_elim
+    (λ (less : end < length t). sym ((few_children g lawful l c).stop end (omega (arith, long)) (sym (ap (λ u. g.allows (take end u)) is) ∙ shut less)))
+    (λ (full : length t ≤ end). let e : end ≡ length l = omega (arith, long) in ap (children_below g.allows l c) e)
+    (cases_lt end (length t))

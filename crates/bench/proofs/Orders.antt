@@ -1,7 +1,6 @@
 -- What the order of places gives: the first of a heap stands before all others. Assumes nothing.
-use Rattle.std.proofs.Common.{◌≡◌, ℕ, zero, suc, ◌<◌, Bool, true, false, cond, List, [], ◌∷◌, length, get_or, take, Some, None, Option, Ordering, Less, Equal, Greater, sym, ap, ◌∙◌, ⊎_elim, true≢false, arith, MatchOption, IfSome, IfNone}
-use Rattle.std.specs.List.Sorted.{IsPermutation}
-use Rattle.std.specs.BinaryHeap.{PopsGreatest}
+use Rattle.std.proofs.Common.{◌≡◌, ℕ, zero, suc, ◌<◌, Bool, true, false, cond, List, [], ◌∷◌, length, get_or, take, drop, Some, None, Option, Ordering, Less, Equal, Greater, sym, ap, ◌∙◌, ⊎_elim, true≢false, arith, refl, MatchOption, IfSome, IsSome, ◌↔◌}
+use Rattle.std.specs.BinaryHeap.{IsUpperBound}
 use Rattle.std.specs.Ordering.{ordering_then, is_lt, nat_cmp}
 use Rattle.std.specs.Cmp.{nat_cmp_is}
 use Rattle.std.specs.Cmp.Lexicographic.{slice_cmp}
@@ -37,8 +36,14 @@ firsts : {S : Type 0} (no_worse : ℕ → ℕ → Bool) (x : Place S) (ys : List
 firsts no_worse x [] h = tt
 firsts no_worse x (y ∷ ys) h = (λ b. true≢false (sym (ap is_lt (before_less no_worse x y b)) ∙ h.0), firsts no_worse x ys h.1)
 
--- what `pop` takes stands first
-module _ {S : Type 0} (no_worse : ℕ → ℕ → Bool) (xs ys : List (Place S)) where
-  pub popped : (N M : Type 0) (r : Option (Place S)) → IfNone r N → IfNone r ((ys ≡ xs) × M) → IfSome r (λ x. IsPermutation xs (x ∷ ys)) → IfSome r (λ x. PopsGreatest (standing no_worse) xs x ys) → Ready no_worse xs → MatchOption r (N × (ys ≡ xs)) (λ x. First no_worse x xs × IsPermutation xs (x ∷ ys))
-  popped N M None n e p h ready = (n, e.0)
-  popped N M (Some x) n e p h ready = (firsts no_worse x xs (h ready).1, p)
+pub begins : {A : Type 0} (xs : List A) (x : A) → 0 < length xs → x ≡ get_or xs 0 x → xs ≡ x ∷ drop 1 xs
+begins [] x some e = absurd (omega arith)
+begins (y ∷ xs) x some e = ap (λ z. z ∷ xs) (sym e)
+
+-- what a look at the first place shows
+pub peeked : {S A : Type 0} (no_worse : ℕ → ℕ → Bool) (now : A → Place S) (xs : List (Place S)) (n : ℕ) → n ≡ length xs
+    → (r : Option A) → IsSome r ↔ (0 < n) → IfSome r (λ a. now a ≡ get_or xs 0 (now a)) → IfSome r (λ a. Ready no_worse xs → IsUpperBound (standing no_worse) (now a) xs) → Ready no_worse xs
+    → MatchOption r (xs ≡ []) (λ a. First no_worse (now a) xs × (xs ≡ now a ∷ drop 1 xs))
+peeked no_worse now [] n e None there at greatest ready = refl
+peeked no_worse now (x ∷ xs) n e None there at greatest ready = absurd (true≢false (sym (there.1 (omega (arith, e)))))
+peeked no_worse now xs n e (Some a) there at greatest ready = (firsts no_worse (now a) xs (greatest ready), begins xs (now a) (omega (arith, e, there.0 refl)) at)

@@ -1,5 +1,5 @@
 -- What a bench holds: chains of a line, with their totals. Assumes nothing.
-use Rattle.std.specs.Prelude.{◌≡◌, ℕ, ◌+◌, ◌-◌, ◌≤◌, Bool, true, false, cond, ◌&&◌, List, [], ◌∷◌, ◌++◌, map, length, replicate, ◌==◌}
+use Rattle.std.specs.Prelude.{◌≡◌, ℕ, ◌+◌, ◌-◌, ◌≤◌, Bool, true, false, cond, ◌&&◌, List, [], ◌∷◌, ◌++◌, map, length, drop, replicate, ◌==◌}
 use Rattle.std.specs.BinaryHeap.{heap_capacity, heap_items, heap_len}
 use Rattle.std.specs.List.{AllByRecursion}
 use Rattle.pages.specs.Shape.{Cells}
@@ -25,6 +25,10 @@ Roomy bench = 4096 ≤ heap_capacity bench.places
 -- the chains on a bench, in no order
 abbrev pub on_bench : {S : Type 0} {m : Ghosts S} → Cells → Bench S m → List Chain
 on_bench l bench = map (λ p. chain_in l p.ranks.0) (heap_items bench.places)
+
+-- the chains beside the first where it is given up, or else all of them
+abbrev pub beside : {S : Type 0} {m : Ghosts S} → Bool → Cells → Bench S m → List Chain
+beside is_first l bench = cond is_first (drop 1 (on_bench l bench)) (on_bench l bench)
 
 -- the two chains are the same
 abbrev pub same : Chain → Chain → Bool

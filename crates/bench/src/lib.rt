@@ -2,8 +2,8 @@
 // its children in its place.
 #![tactic(auto)]
 
-ghost use Rattle.std.specs.Prelude.{◌≡◌, ℕ, ◌+◌, ◌<◌, ◌≤◌, true, false, Contains, List, [], ◌∷◌, ◌++◌, length, take, IfOk, MatchOption, ◌==◌};
-ghost use Rattle.std.specs.BinaryHeap.{heap_capacity, heap_items, heap_len};
+ghost use Rattle.std.specs.Prelude.{◌≡◌, ℕ, ◌+◌, ◌<◌, ◌≤◌, true, false, Contains, List, [], ◌∷◌, ◌++◌, length, take, drop, IfOk, MatchOption, ◌==◌};
+ghost use Rattle.std.specs.BinaryHeap.{heap_capacity, heap_items};
 ghost use Rattle.std.proofs.Props.{props};
 ghost use Rattle.scores.specs.Scores.{stepped};
 ghost use Rattle.bench.specs.Order.{Ready, First};
@@ -11,11 +11,10 @@ ghost use Rattle.bench.specs.Order.{Ready, First};
 use chains::Chain;
 use grammars::Grammar;
 use pages::{Line, MOST_CELLS};
-use places::{Grade, Place};
+use places::Place;
 use ranks::Ranks;
 use scores::Score;
 use std::alloc::{AllocError, Global};
-use std::cmp::Reverse;
 use std::collections::BinaryHeap;
 use std::marker::PhantomData;
 
@@ -87,7 +86,7 @@ impl<S: Score> Bench<S> {
     ghost use Rattle.pages.specs.Answers.{line_of};
     ghost use Rattle.search.specs.Chains.{text as text_of, penalties as penalties_of, total as total_of, live, children};
     ghost use Rattle.bench.specs.Chains.{cells_of, chosen};
-    ghost use Rattle.bench.specs.Held.{in_use, Roomy, on_bench, Holds, Seen};
+    ghost use Rattle.bench.specs.Held.{in_use, Roomy, on_bench, beside, Holds, Seen};
     ghost use Rattle.bench.specs.Searched.{AgreesAt, sought_of};
 
     pub fn new(heap: Global) -> Result<Bench<S>, AllocError>
@@ -105,14 +104,18 @@ impl<S: Score> Bench<S> {
         requires room { length (on_bench (cells_of chain) self.old) < 4096 }
         ensures { Holds S.Score.meaning (cells_of chain.entry) self.new (on_bench (cells_of chain.entry) self.old ++ chosen chain.entry ∷ []) }
     {
-        let place = Place {
-            grade: Grade {
-                total,
-                score: PhantomData,
-            },
-            ranks: Reverse(chain.ranks),
-        };
-        self.places.push(place).unwrap();
+        self.places.push(Place::of(chain, total)).unwrap();
+    }
+
+    // Puts a chain onto the bench in place of the first.
+    fn put_first(&mut self, chain: Chain<'_>, total: u64)
+        requires holds { Holds S.Score.meaning (cells_of chain) self.old (on_bench (cells_of chain) self.old) }
+        requires total { total ≡ total_of S.Score.meaning (cells_of chain) (chosen chain) }
+        requires some { 0 < in_use self.old }
+        ensures { Holds S.Score.meaning (cells_of chain.entry) self.new (drop 1 (on_bench (cells_of chain.entry) self.old) ++ chosen chain.entry ∷ []) }
+    {
+        let mut first = self.places.peek_mut().unwrap();
+        *first = Place::of(chain, total);
     }
 
     // Leaves the chain alone in which no cell is raised.
@@ -137,17 +140,40 @@ impl<S: Score> Bench<S> {
         self.places.len()
     }
 
-    // Takes the chain that stands before all others.
-    fn take_best(&mut self) -> Option<Place<S>>
-        ensures { MatchOption result ((heap_len self.old.places ≡ 0) × (heap_items self.new.places ≡ heap_items self.old.places)) (λ x. First S.Score.meaning.no_worse x (heap_items self.old.places) × IsPermutation (heap_items self.old.places) (x ∷ heap_items self.new.places)) }
+    // The place that stands before all others.
+    fn first(&self) -> Option<&Place<S>>
+        ensures { MatchOption result (heap_items self.now.places ≡ []) (λ x. First S.Score.meaning.no_worse x.now (heap_items self.now.places) × (heap_items self.now.places ≡ x.now ∷ drop 1 (heap_items self.now.places))) }
     {
-        self.places.pop()
+        self.places.peek()
     }
 
-    // Puts the children of a chain onto the bench: in each, one cell from the last raised one on is raised by one more.
-    // Past the first opening that the grammar does not allow there are none. Text and penalties are the parent's, which
-    // the caller has worked out already: a child's total differs from the parent's from the raised cell on.
-    fn put_children<G: Grammar>(
+    // Takes the first chain off the bench.
+    fn remove_first(&mut self, line: &Line)
+        requires holds { Holds S.Score.meaning (line_of line.now) self.old (on_bench (line_of line.now) self.old) }
+        ensures { Holds S.Score.meaning (line_of line.now) self.new (drop 1 (on_bench (line_of line.now) self.old)) }
+    {
+        self.places.pop();
+    }
+
+    // Puts a child onto the bench, the first child in place of its parent, which is the first there.
+    fn put_child(&mut self, is_first: bool, child: Chain<'_>, total: u64)
+        requires holds { Holds S.Score.meaning (cells_of child) self.old (on_bench (cells_of child) self.old) }
+        requires total { total ≡ total_of S.Score.meaning (cells_of child) (chosen child) }
+        requires some { 0 < in_use self.old }
+        requires room { length (beside is_first (cells_of child) self.old) < 4096 }
+        ensures { Holds S.Score.meaning (cells_of child.entry) self.new (beside is_first (cells_of child.entry) self.old ++ chosen child.entry ∷ []) }
+    {
+        if is_first {
+            self.put_first(child, total);
+        } else {
+            self.put(child, total);
+        }
+    }
+
+    // Leaves the children of the first chain on the bench in its place: in each, one cell from the last raised one on is
+    // raised by one more. Past the first opening that the grammar does not allow there are none. Text and penalties are the
+    // parent's, which the caller has worked out already: a child's total differs from the parent's from the raised cell on.
+    fn exchange<G: Grammar>(
         &mut self,
         grammar: &G,
         parent: Chain<'_>,
@@ -158,18 +184,25 @@ impl<S: Score> Bench<S> {
         requires text { text.now ≡ text_of (cells_of parent) (chosen parent) }
         requires penalties { penalties.now ≡ penalties_of (cells_of parent) (chosen parent) }
         requires live { live (G.Grammar.meaning grammar.now).allows (cells_of parent) (chosen parent) ≡ true }
-        requires room { length (on_bench (cells_of parent) self.old) + length (cells_of parent) ≤ 4096 }
-        ensures { Holds S.Score.meaning (cells_of parent.entry) self.new (on_bench (cells_of parent.entry) self.old ++ children (G.Grammar.meaning grammar.now).allows (cells_of parent.entry) (chosen parent.entry)) }
+        requires some { 0 < in_use self.old }
+        requires room { length (on_bench (cells_of parent) self.old) + length (cells_of parent) ≤ 4097 }
+        ensures { Holds S.Score.meaning (cells_of parent.entry) self.new (drop 1 (on_bench (cells_of parent.entry) self.old) ++ children (G.Grammar.meaning grammar.now).allows (cells_of parent.entry) (chosen parent.entry)) }
     {
         let first = parent.last_raised();
         // The total of the penalties before the cell.
         let mut before = scores::total::<S>(&penalties[..first]);
+        let mut is_first = true;
         for cell in first..open_cells(grammar, text, first) {
             if let Some(child) = parent.raised(cell) {
                 let total = S::step(before, child.penalty(cell));
-                self.put(child, stepped::<S>(total, &penalties[cell + 1..]));
+                self.put_child(is_first, child, stepped::<S>(total, &penalties[cell + 1..]));
+                is_first = false;
             }
             before = S::step(before, penalties[cell]);
+        }
+        // The parent stands there yet where it has no children.
+        if is_first {
+            self.remove_first(parent.line);
         }
     }
 
@@ -181,14 +214,15 @@ impl<S: Score> Bench<S> {
         requires live { (c : List ℕ) → Contains (on_bench (line_of line.now) self.old) c → live (G.Grammar.meaning grammar.now).allows (line_of line.now) c ≡ true }
         ensures { MatchOption result ((on_bench (line_of line.now) self.old ≡ []) × Holds S.Score.meaning (line_of line.now) self.new []) (λ reading. Seen S.Score.meaning (G.Grammar.meaning grammar.now).allows (line_of line.now) self.old self.new reading) }
     {
-        let place = self.take_best()?;
+        let place = self.first()?;
+        let total = place.grade.total;
         let chain = Chain {
             line,
             ranks: place.ranks.0,
         };
         let taken = chain.taken();
         let cells = line.cells().len();
-        self.put_children(
+        self.exchange(
             grammar,
             chain,
             &taken.text[..cells],
@@ -196,7 +230,7 @@ impl<S: Score> Bench<S> {
         );
         Some(Reading {
             text: taken.text,
-            total: place.grade.total,
+            total,
         })
     }
 

@@ -1,10 +1,11 @@
 // Places of the bench, in standing order.
-ghost use Rattle.std.specs.Prelude.{Some, refl};
+ghost use Rattle.std.specs.Prelude.{◌≡◌, Some, refl};
 ghost use Rattle.std.specs.Ordering.{is_eq, on};
 ghost use Rattle.std.specs.Cmp.{on_total, eq_by_cmp_equiv, partial_equiv_from_equiv, partial_order_from_agreeing_total};
 ghost use Rattle.bench.specs.Order.{by_total};
 ghost use Rattle.bench.specs.OrderLemmas.{totals};
 
+use crate::chains::Chain;
 use crate::ranks::Ranks;
 use scores::Score;
 use std::cmp::{Ordering, Reverse};
@@ -24,6 +25,21 @@ pub(crate) struct Place<S> {
 pub(crate) struct Grade<S> {
     pub(crate) total: u64,
     pub(crate) score: PhantomData<S>,
+}
+
+impl<S: Score> Place<S> {
+    pub(crate) fn of(chain: Chain<'_>, total: u64) -> Place<S>
+        ensures total { result.grade.total ≡ total }
+        ensures ranks { result.ranks.0 ≡ chain.entry.ranks }
+    {
+        Place {
+            grade: Grade {
+                total,
+                score: PhantomData,
+            },
+            ranks: Reverse(chain.ranks),
+        }
+    }
 }
 
 impl<S: Score> PartialEq for Grade<S> {
