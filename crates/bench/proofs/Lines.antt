@@ -7,6 +7,8 @@ use Rattle.pages.specs.Few.{few_items}
 use Rattle.pages.specs.Shape.{Cells, cell_of, well_formed_line}
 use Rattle.pages.specs.Answers.{line_of}
 use Rattle.pages.proofs.Shape.{line_parts}
+use Rattle.bench.specs.declared.ranks.Ranks.{Ranks}
+use Rattle.bench.specs.Ranks.{ranks_of, chain_in}
 use Rattle.search.specs.Chains.{ChainOf, root}
 use Rattle.search.proofs.Raised.{sound}
 use Rattle.search.proofs.Growth.{root_chain}
@@ -25,8 +27,10 @@ module _ (l : Cells) (well : well_formed_line l ≡ true) where
   pub few_cells : length l ≤ 24
   few_cells = (line_parts l well).few
 
-  pub flat_root : take (length l) (replicate 24 0) ≡ root l
-  flat_root = take-replicate (length l) 24 0 few_cells
+  -- ranks with no cell raised
+  module _ (r : Ranks) (flat : ranks_of r ≡ replicate 24 0) where
+    pub flat_root : chain_in l r ≡ root l
+    flat_root = ap (take (length l)) flat ∙ take-replicate (length l) 24 0 few_cells
 
-  pub flat_chain : ChainOf l (take (length l) (replicate 24 0))
-  flat_chain = subst (ChainOf l) (sym flat_root) (root_chain l (sound l well))
+    pub flat_chain : ChainOf l (chain_in l r)
+    flat_chain = subst (ChainOf l) (sym flat_root) (root_chain l (sound l well))

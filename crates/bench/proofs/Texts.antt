@@ -57,21 +57,21 @@ penalties_set (cell ∷ line) (x ∷ c) zero r e lt = refl
 penalties_set (cell ∷ line) (x ∷ c) (suc i) r e lt = ap (λ ps. (get_or cell x no_alt).penalty ∷ ps) (penalties_set line c i r (omega arith) (omega arith))
 
 -- the total of a child d of c, from the total before the raised cell, the penalty there and those behind it
-pub child_total : (s : Meaning) (line k : Cells) (c d : Chain) (i before p : ℕ) → length c ≡ length line → i < length line → k ≡ line → d ≡ raised c i
-    → before ≡ stepped s s.start (take i (penalties line c)) → p ≡ (get_or (get_or k i []) (get_or d i 0) no_alt).penalty
-    → stepped s (s.step before p) (drop (i + 1) (penalties line c)) ≡ total s k d
-child_total s line k c d i before p long lt same child first is =
+pub child_total : (s : Meaning) (line : Cells) (c d : Chain) (i before p : ℕ) → length c ≡ length line → i < length line → d ≡ raised c i
+    → before ≡ stepped s s.start (take i (penalties line c)) → p ≡ (get_or (get_or line i []) (get_or d i 0) no_alt).penalty
+    → stepped s (s.step before p) (drop (i + 1) (penalties line c)) ≡ total s line d
+child_total s line c d i before p long lt child first is =
     let r = get_or c i 0 + 1 in
     let ps = penalties line c in
     let inside : i < length c = omega arith in
     let next : suc i ≡ i + 1 = omega arith in
     let step : p ≡ (get_or (get_or line i []) r no_alt).penalty =
-    is ∙ (λ j. (get_or (get_or (same j) i []) (get_or (child j) i 0) no_alt).penalty) ∙ ap (λ n. (get_or (get_or line i []) n no_alt).penalty) (get_or-set_same c i r 0 inside) in
+    is ∙ (λ j. (get_or (get_or line i []) (get_or (child j) i 0) no_alt).penalty) ∙ ap (λ n. (get_or (get_or line i []) n no_alt).penalty) (get_or-set_same c i r 0 inside) in
     (λ j. stepped s (s.step (first j) (step j)) (drop (i + 1) ps))
     ∙ sym (fold-append s.step s.start (take i ps) ((get_or (get_or line i []) r no_alt).penalty ∷ drop (i + 1) ps))
     ∙ ap (λ n. stepped s s.start (take i ps ++ (get_or (get_or line i []) r no_alt).penalty ∷ drop n ps)) (sym next)
     ∙ ap (stepped s s.start) (sym (penalties_set line c i r long inside))
-    ∙ sym (λ j. total s (same j) (child j))
+    ∙ sym (ap (total s line) child)
 
 -- the total before the next cell
 pub before_next : (s : Meaning) (ps : List ℕ) (i before : ℕ) → i < length ps → before ≡ stepped s s.start (take i ps) → s.step before (get_or ps i 0) ≡ stepped s s.start (take (i + 1) ps)

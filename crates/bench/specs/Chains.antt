@@ -11,4 +11,4 @@ cells_of c = line_of c.line.now
 
 -- the rank that it takes in each of them
 abbrev pub chosen : Chain → List ℕ
-chosen c = chain_in (cells_of c) c.ranks
+chosen c = chain_in (cells_of c) c.ranks.now

@@ -15,27 +15,28 @@ pub(crate) struct Taken {
     pub(crate) penalties: [u16; MOST_CELLS],
 }
 
-// A chain with its line.
+impl Taken {
+    pub(crate) fn nothing() -> Taken
+        ensures text { result.text ≡ replicate 24 0 }
+        ensures penalties { result.penalties ≡ replicate 24 0 }
+    {
+        Taken {
+            text: [0; MOST_CELLS],
+            penalties: [0; MOST_CELLS],
+        }
+    }
+}
+
+// A chain with its line, both lent: what is lent is not copied on its way.
 #[derive(Clone, Copy)]
 pub(crate) struct Chain<'a> {
     pub(crate) line: &'a Line,
-    pub(crate) ranks: Ranks,
-    ghost of_line: { ChainOf (line_of line.now) (chain_in (line_of line.now) ranks) } by { Prim.hlevel props },
+    pub(crate) ranks: &'a Ranks,
+    ghost of_line: { ChainOf (line_of line.now) (chain_in (line_of line.now) ranks.now) } by { Prim.hlevel props },
 }
 
 impl<'a> Chain<'a> {
     ghost use Rattle.bench.specs.Chains.{cells_of, chosen};
-
-    // The chain in which no cell is raised.
-    pub(crate) fn flat(line: &'a Line) -> Chain<'a>
-        ensures cells { cells_of result ≡ line_of line.now }
-        ensures root { chosen result ≡ root (line_of line.now) }
-    {
-        Chain {
-            line,
-            ranks: Ranks::flat(),
-        }
-    }
 
     // The alternative that it takes in a cell.
     fn alternative(&self, cell: usize) -> Alternative
@@ -52,22 +53,19 @@ impl<'a> Chain<'a> {
         self.alternative(cell).penalty
     }
 
-    // What it takes in its cells, and 0 past its end.
-    pub(crate) fn taken(&self) -> Taken
-        ensures text { result.text ≡ text (cells_of self.now) (chosen self.now) ++ replicate (24 - length (cells_of self.now)) 0 }
-        ensures penalties { result.penalties ≡ penalties (cells_of self.now) (chosen self.now) ++ replicate (24 - length (cells_of self.now)) 0 }
+    // Fills in what it takes in its cells, and leaves 0 past its end.
+    pub(crate) fn take(&self, taken: &mut Taken)
+        requires text { taken.old.text ≡ replicate 24 0 }
+        requires penalties { taken.old.penalties ≡ replicate 24 0 }
+        ensures text { taken.new.text ≡ text (cells_of self.now) (chosen self.now) ++ replicate (24 - length (cells_of self.now)) 0 }
+        ensures penalties { taken.new.penalties ≡ penalties (cells_of self.now) (chosen self.now) ++ replicate (24 - length (cells_of self.now)) 0 }
     {
-        let mut taken = Taken {
-            text: [0; MOST_CELLS],
-            penalties: [0; MOST_CELLS],
-        };
         // By the number: each cell has its place in both arrays.
         for cell in 0..self.line.cells().len() {
             let alternative = self.alternative(cell);
             taken.text[cell] = alternative.symbol;
             taken.penalties[cell] = alternative.penalty;
         }
-        taken
     }
 
     // The last raised cell, or 0 where none is raised.
@@ -77,18 +75,15 @@ impl<'a> Chain<'a> {
         self.ranks.last_raised(self.line.cells().len())
     }
 
-    // The chain with one cell raised by one more, where the cell has another alternative behind the one that is taken. An
+    // Its ranks with one cell raised by one more, where the cell has another alternative behind the one that is taken. An
     // `if`, since by `then` the closure would have to ask for what the test says.
-    pub(crate) fn raised(&self, cell: usize) -> Option<Chain<'a>>
+    pub(crate) fn raised(&self, cell: usize) -> Option<Ranks>
         requires { cell < length (cells_of self.now) }
-        ensures { MatchOption result (length (slice_index_or (cells_of self.now) cell []) ≤ slice_index (chosen self.now) cell + 1) (λ child. (slice_index (chosen self.now) cell + 1 < length (slice_index_or (cells_of self.now) cell [])) × (cells_of child ≡ cells_of self.now) × (chosen child ≡ raised (chosen self.now) cell)) }
+        ensures { MatchOption result (length (slice_index_or (cells_of self.now) cell []) ≤ slice_index (chosen self.now) cell + 1) (λ child. (slice_index (chosen self.now) cell + 1 < length (slice_index_or (cells_of self.now) cell [])) × ChainOf (cells_of self.now) (chain_in (cells_of self.now) child) × (chain_in (cells_of self.now) child ≡ raised (chosen self.now) cell)) }
     {
         let rank = self.ranks.rank(cell);
         if usize::from(rank) + 1 < self.line.cells()[cell].alternatives().len() {
-            Some(Chain {
-                line: self.line,
-                ranks: self.ranks.raised(cell),
-            })
+            Some(self.ranks.raised(cell))
         } else {
             None
         }

@@ -8,7 +8,7 @@ ghost use Rattle.std.proofs.Props.{props};
 ghost use Rattle.scores.specs.Scores.{stepped};
 ghost use Rattle.bench.specs.Order.{Ready, First};
 
-use chains::Chain;
+use chains::{Chain, Taken};
 use grammars::Grammar;
 use pages::{Line, MOST_CELLS};
 use places::Place;
@@ -123,9 +123,15 @@ impl<S: Score> Bench<S> {
         ensures { (g : Sets) → Lawful g → AgreesAt S.Score.meaning g.allows (line_of line.now) 0 0 self.new }
     {
         self.places.clear();
-        let chain = Chain::flat(line);
-        let penalties = chain.taken().penalties;
-        self.put(chain, scores::total::<S>(&penalties[..line.cells().len()]));
+        let ranks = Ranks::flat();
+        let chain = Chain {
+            line,
+            ranks: &ranks,
+        };
+        let mut taken = Taken::nothing();
+        chain.take(&mut taken);
+        let total = scores::total::<S>(&taken.penalties[..line.cells().len()]);
+        self.put(chain, total);
     }
 
     pub fn is_empty(&self) -> bool
@@ -193,7 +199,11 @@ impl<S: Score> Bench<S> {
         let mut before = scores::total::<S>(&penalties[..first]);
         let mut is_first = true;
         for cell in first..open_cells(grammar, text, first) {
-            if let Some(child) = parent.raised(cell) {
+            if let Some(ranks) = parent.raised(cell) {
+                let child = Chain {
+                    line: parent.line,
+                    ranks: &ranks,
+                };
                 let total = S::step(before, child.penalty(cell));
                 self.put_child(is_first, child, stepped::<S>(total, &penalties[cell + 1..]));
                 is_first = false;
@@ -216,11 +226,13 @@ impl<S: Score> Bench<S> {
     {
         let place = self.first()?;
         let total = place.grade.total;
+        let ranks = place.ranks.0;
         let chain = Chain {
             line,
-            ranks: place.ranks.0,
+            ranks: &ranks,
         };
-        let taken = chain.taken();
+        let mut taken = Taken::nothing();
+        chain.take(&mut taken);
         let cells = line.cells().len();
         self.exchange(
             grammar,

@@ -30,14 +30,14 @@ pub(crate) struct Grade<S> {
 impl<S: Score> Place<S> {
     pub(crate) fn of(chain: Chain<'_>, total: u64) -> Place<S>
         ensures total { result.grade.total ≡ total }
-        ensures ranks { result.ranks.0 ≡ chain.entry.ranks }
+        ensures ranks { result.ranks.0 ≡ chain.entry.ranks.now }
     {
         Place {
             grade: Grade {
                 total,
                 score: PhantomData,
             },
-            ranks: Reverse(chain.ranks),
+            ranks: Reverse(*chain.ranks),
         }
     }
 }

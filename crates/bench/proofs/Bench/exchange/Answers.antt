@@ -1,10 +1,10 @@
 use Rattle.std.proofs.Common.{◌≡◌, ◌+◌, ◌-◌, ◌<◌, true, [], ◌∷◌, ◌++◌, length, get_or, take, drop, refl, sym, ap, ◌∙◌, subst, append_assoc, append-nil, arith, length-append, length-take, length-drop}
 use Rattle.std.proofs.lemmas.List.{take_all}
-use Rattle.pages.specs.Shape.{Cells}
 use Rattle.scores.specs.Scores.{stepped}
 use Rattle.search.specs.Chains.{text, penalties, children_below}
 use Rattle.search.proofs.Growth.{children_few}
 use Rattle.bench.specs.Chains.{cells_of, chosen}
+use Rattle.bench.specs.Ranks.{chain_in}
 use Rattle.bench.specs.Held.{on_bench, beside, Holds}
 use Rattle.bench.proofs.Texts.{text_fills, penalties_long, raised_within, live_opens, child_total, before_next}
 use Rattle.bench.proofs.Benches.{many_on, exchanging_none, exchanging_same, exchanging_more, exchanged, children_none, children_yes, children_no, all_met}
@@ -37,12 +37,11 @@ put_child-requires-clause-total g c =
     let s = g.S.Score.meaning in
     let i = c.loop-cell.cell in
     let inside : i < length l = omega (arith, text_fills l chain c.args.text.now c.args.parent.of_line c.requires.text, c.loop-cell-test.true, c.open_cells-cell-end.ensures.within.1) in
-    let told = c.in-Some.ensures in
     let rest : take (length c.args.penalties.now - (i + 1)) (drop (i + 1) c.args.penalties.now) ≡ drop (i + 1) (penalties l chain) =
     take_all _ (drop (i + 1) c.args.penalties.now) (omega (arith, length-drop (i + 1) c.args.penalties.now)) ∙ ap (drop (i + 1)) c.requires.penalties in
     c.stepped.ensures
     ∙ (λ j. stepped s (c.step-total.ensures j) (rest j))
-    ∙ child_total s l (cells_of c.in-Some.child) chain (chosen c.in-Some.child) i c.loop-cell.before c.penalty.result c.args.parent.of_line.long inside told.1 told.2 c.loop-cell.invariant.1 c.penalty.ensures
+    ∙ child_total s l chain (chain_in l c.in-Some.ranks) i c.loop-cell.before c.penalty.result c.args.parent.of_line.long inside c.in-Some.ensures.2 c.loop-cell.invariant.1 c.penalty.ensures
 
 pub raised-requires : goal.raised-requires
 raised-requires g c =
@@ -50,9 +49,7 @@ raised-requires g c =
     omega (arith, text_fills l (chosen c.args.parent) c.args.text.now c.args.parent.of_line c.requires.text, c.loop-cell-test.true, c.open_cells-cell-end.ensures.within.1)
 
 pub put_child-requires-clause-holds : goal.put_child-requires-clause-holds
-put_child-requires-clause-holds g c =
-    let child = c.in-Some.child in
-    subst (λ (k : Cells). Holds g.S.Score.meaning k c.loop-cell.self (on_bench k c.loop-cell.self)) (sym c.in-Some.ensures.1) c.loop-cell.invariant.0.holds
+put_child-requires-clause-holds g c = c.loop-cell.invariant.0.holds
 
 pub put_child-requires-clause-some : goal.put_child-requires-clause-some
 put_child-requires-clause-some g c = c.loop-cell.invariant.0.some
@@ -65,9 +62,7 @@ put_child-requires-clause-room g c =
     let i = c.loop-cell.cell in
     let behind = drop 1 (on_bench l c.args.self.now) in
     let inside : i < length l = omega (arith, text_fills l chain c.args.text.now c.args.parent.of_line c.requires.text, c.loop-cell-test.true, c.open_cells-cell-end.ensures.within.1) in
-    let many : length (beside c.loop-cell.is_first l c.loop-cell.self) < 4096 =
-    omega (arith, c.loop-cell.invariant.0.many, length-append behind (children_below allows l chain i), length-drop 1 (on_bench l c.args.self.now), many_on l c.args.self.now, children_few allows l chain i, c.requires.room, c.requires.some) in
-    subst (λ (k : Cells). length (beside c.loop-cell.is_first k c.loop-cell.self) < 4096) (sym c.in-Some.ensures.1) many
+    omega (arith, c.loop-cell.invariant.0.many, length-append behind (children_below allows l chain i), length-drop 1 (on_bench l c.args.self.now), many_on l c.args.self.now, children_few allows l chain i, c.requires.room, c.requires.some)
 
 pub loop-cell-preserved : goal.loop-cell-preserved
 loop-cell-preserved g c =
@@ -84,14 +79,12 @@ loop-cell-preserved g c =
       elim c.match-raised.branch [
         | in-Some w ↦
             let told = w.in-Some.ensures in
-            let child = w.in-Some.child in
-            let held : Holds s l w.put_child.new.self (beside c.loop-cell.is_first l c.loop-cell.self ++ chosen child ∷ []) =
-            subst (λ (k : Cells). Holds s k w.put_child.new.self (beside c.loop-cell.is_first k c.loop-cell.self ++ chosen child ∷ [])) told.1 w.put_child.ensures in
-            let more : (behind ++ before) ++ chosen child ∷ [] ≡ behind ++ children_below allows l chain (i + 1) =
-            append_assoc behind before (chosen child ∷ [])
+            let child = chain_in l w.in-Some.ranks in
+            let more : (behind ++ before) ++ child ∷ [] ≡ behind ++ children_below allows l chain (i + 1) =
+            append_assoc behind before (child ∷ [])
             ∙ ap (λ z. behind ++ (before ++ z ∷ [])) told.2
             ∙ ap (λ cs. behind ++ cs) (sym (children_yes allows l chain i (omega (arith, c.loop-cell.auto.cell, c.last_raised-first.ensures)) opened told.0)) in
-            exchanging_same s l w.is_first-is w.self-is more (exchanging_more s l c.loop-cell.is_first c.loop-cell.self w.put_child.new.self (behind ++ before) (chosen child) c.loop-cell.invariant.0 held)
+            exchanging_same s l w.is_first-is w.self-is more (exchanging_more s l c.loop-cell.is_first c.loop-cell.self w.put_child.new.self (behind ++ before) child c.loop-cell.invariant.0 w.put_child.ensures)
         | in_default w ↦ exchanging_same s l w.is_first-is w.self-is (ap (λ cs. behind ++ cs) (sym (children_no allows l chain i w.in_default.ensures))) c.loop-cell.invariant.0
       ],
       c.step-before.ensures ∙ ap (λ ps. s.step c.loop-cell.before (get_or ps i 0)) c.requires.penalties ∙ before_next s (penalties l chain) i c.loop-cell.before inside c.loop-cell.invariant.1,

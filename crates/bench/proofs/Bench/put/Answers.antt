@@ -7,4 +7,4 @@ pub returns : goal.returns
 returns g c =
     let chain = c.args.chain in
     let told = c.of.ensures in
-    holds_put (cells_of chain) c.args.self.now _ c.requires.holds c.of.result chain.ranks told.ranks chain.of_line (told.total ∙ c.requires.total) (rw c.unwrap.ensures at c.push.ensures.permutation)
+    holds_put (cells_of chain) c.args.self.now _ c.requires.holds c.of.result chain.ranks.now told.ranks chain.of_line (told.total ∙ c.requires.total) (rw c.unwrap.ensures at c.push.ensures.permutation)

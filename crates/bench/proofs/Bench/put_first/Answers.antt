@@ -12,4 +12,4 @@ returns g c =
     let top = c.unwrap-first.result in
     let rest = MatchOption-at_some _ _ top c.unwrap-first.ensures c.peek_mut.ensures.rest in
     let shuffled = IsPermutation-trans _ _ _ (IsPermutation-cons c.of.result _ _ rest) (c.drop-first.ensures.permutation (search rules)) in
-    holds_put_first (cells_of chain) c.args.self.now _ c.requires.holds c.of.result chain.ranks told.ranks chain.of_line (told.total ∙ c.requires.total) (search rules)
+    holds_put_first (cells_of chain) c.args.self.now _ c.requires.holds c.of.result chain.ranks.now told.ranks chain.of_line (told.total ∙ c.requires.total) (search rules)

@@ -1,7 +1,7 @@
 use Rattle.std.proofs.Common.{◌≡◌, ◌-◌, ◌++◌, take, replicate}
 use Rattle.search.specs.Chains.{text, penalties}
 use Rattle.bench.specs.Chains.{cells_of, chosen}
-use Rattle.bench.proofs.chains.Chain.taken.Given as goal
+use Rattle.bench.proofs.chains.Chain.take.Given as goal
 
 -- what the cells before this one take is there
 abbrev pub invariant-loop-cell : goal.invariant-loop-cell

@@ -3,7 +3,7 @@ use Rattle.search.specs.Chains.{text, penalties}
 use Rattle.bench.specs.Chains.{cells_of, chosen}
 use Rattle.bench.proofs.Lines.{as_many, few_cells}
 use Rattle.bench.proofs.Texts.{text_long, penalties_long, part_at, filled_more, filled_all}
-use Rattle.bench.proofs.chains.Chain.taken.Goals as goal
+use Rattle.bench.proofs.chains.Chain.take.Goals as goal
 
 pub loop-cell-preserved : goal.loop-cell-preserved
 loop-cell-preserved c =
