@@ -1,5 +1,5 @@
 -- What a bench holds after a place is put onto it or taken from it. Assumes nothing.
-use Rattle.std.proofs.Common.{◌≡◌, ℕ, zero, suc, ◌+◌, ◌<◌, ◌≤◌, Bool, true, false, cond, not, ◌&&◌, ◌||◌, eqb, ltb, leb, ◌⊎◌, Contains, List, [], ◌∷◌, ◌++◌, map, length, get_or, take, drop, heap_items, sym, refl, ap, ◌∙◌, subst, inl, inr, ⊎_elim, Some, None, Option, IfSome, IfNone, arith, length-append, length-take, get_or-take}
+use Rattle.std.proofs.Common.{◌≡◌, ℕ, zero, suc, ◌+◌, ◌<◌, ◌≤◌, Bool, true, false, cond, not, ◌&&◌, ◌||◌, eqb, ltb, leb, ◌⊎◌, Contains, List, [], ◌∷◌, ◌++◌, map, length, get_or, take, drop, replicate, ◌-◌, heap_items, sym, refl, ap, ◌∙◌, subst, inl, inr, ⊎_elim, Some, None, Option, IfSome, IfNone, arith, length-append, length-take, get_or-take}
 use Rattle.std.specs.List.Sorted.{IsPermutation}
 use Rattle.std.specs.List.{AllByRecursion}
 use Rattle.std.proofs.lemmas.List.Sorted.{length_permutation}
@@ -16,7 +16,7 @@ use Rattle.bench.specs.declared.ranks.Ranks.{Ranks}
 use Rattle.bench.specs.declared.Bench.{Bench}
 use Rattle.bench.specs.Order.{First, Before, Lower}
 use Rattle.bench.specs.Ranks.{ranks_of, chain_in}
-use Rattle.bench.specs.Held.{in_use, Placed, on_bench, beside, times, Holds, Taken}
+use Rattle.bench.specs.Held.{in_use, Placed, on_bench, beside, times, Holds, Taken, Seen}
 use Rattle.search.proofs.Members.{Contains-first}
 use Rattle.search.proofs.Growth.{few_children}
 use Rattle.bench.proofs.Counts.{times_append, times_shuffled}
@@ -169,6 +169,17 @@ module _ {S : Type 0} {m : Ghosts S} (s : Meaning) (l : Cells) (was : Bench S m)
         others = λ d. ap (times d) all;
         fewer = omega (arith, ap length all);
       }
+
+  -- it is looked at once its children stand in its place
+  pub seen_first : (allows : Texts) (is : Bench S m) (t : List ℕ) → t ≡ text l (chain_in l x.ranks.0) ++ replicate (24 - length l) 0 → First s.no_worse x (heap_items was.places)
+      → Holds s l is (drop 1 (on_bench l was) ++ children allows l (chain_in l x.ranks.0)) → Seen s allows l was is (record { text = t; total = x.grade.total })
+  seen_first allows is t reads first holds = record {
+    chain = chain_in l x.ranks.0;
+    rest = drop 1 (on_bench l was);
+    chosen = taken_first first;
+    reads = λ i. record { text = reads i; total = placed_first.1 i };
+    holds = holds;
+  }
 
 -- A bench while its first chain is exchanged for its children: beside the parent, where that still stands there, it holds the
 -- chains cs, each as often.

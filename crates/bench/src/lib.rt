@@ -40,6 +40,13 @@ pub struct Sought {
     pub reading: Option<Reading>,
 }
 
+// What a look comes to.
+#[derive(Clone, Copy)]
+struct Looked {
+    reading: Reading,
+    is_admitted: bool,
+}
+
 // Room for 4,096 places, got when the bench is made and never asked for again. The heap stands in its order by the score.
 // What it holds is of a line that the bench does not have, so `Holds` is a condition of the calls.
 #[derive(Drop)]
@@ -179,26 +186,29 @@ impl<S: Score> Bench<S> {
     // Leaves the children of the first chain on the bench in its place: in each, one cell from the last raised one on is
     // raised by one more. Past the first opening that the grammar does not allow there are none. Text and penalties are the
     // parent's, which the caller has worked out already: a child's total differs from the parent's from the raised cell on.
+    // Says whether the openings before all cells are allowed: where one is not, the text is not admitted.
     fn exchange<G: Grammar>(
         &mut self,
         grammar: &G,
         parent: Chain<'_>,
         text: &[u8],
         penalties: &[u16],
-    )
+    ) -> bool
         requires holds { Holds S.Score.meaning (cells_of parent) self.old (on_bench (cells_of parent) self.old) }
         requires text { text.now ≡ text_of (cells_of parent) (chosen parent) }
         requires penalties { penalties.now ≡ penalties_of (cells_of parent) (chosen parent) }
         requires live { live (G.Grammar.meaning grammar.now).allows (cells_of parent) (chosen parent) ≡ true }
         requires some { 0 < in_use self.old }
         requires room { length (on_bench (cells_of parent) self.old) + length (cells_of parent) ≤ 4097 }
-        ensures { Holds S.Score.meaning (cells_of parent.entry) self.new (drop 1 (on_bench (cells_of parent.entry) self.old) ++ children (G.Grammar.meaning grammar.now).allows (cells_of parent.entry) (chosen parent.entry)) }
+        ensures shut { result ≡ false → (G.Grammar.meaning grammar.now).admits text.now ≡ false }
+        ensures holds { Holds S.Score.meaning (cells_of parent.entry) self.new (drop 1 (on_bench (cells_of parent.entry) self.old) ++ children (G.Grammar.meaning grammar.now).allows (cells_of parent.entry) (chosen parent.entry)) }
     {
         let first = parent.last_raised();
         // The total of the penalties before the cell.
         let mut before = scores::total::<S>(&penalties[..first]);
         let mut is_first = true;
-        for cell in first..open_cells(grammar, text, first) {
+        let open = open_cells(grammar, text, first);
+        for cell in first..open {
             if let Some(ranks) = parent.raised(cell) {
                 let child = Chain {
                     line: parent.line,
@@ -214,15 +224,17 @@ impl<S: Score> Bench<S> {
         if is_first {
             self.remove_first(parent.line);
         }
+        open == text.len()
     }
 
-    // Looks at the first chain on the bench, and leaves its children in its place. Grammar and line are two arguments, as the
+    // Looks at the first chain on the bench, and leaves its children in its place. The grammar is asked for the text only
+    // where no opening has told already that it is not admitted. Grammar and line are two arguments, as the
     // caller has them apart.
-    fn look<G: Grammar>(&mut self, grammar: &G, line: &Line) -> Option<Reading>
+    fn look<G: Grammar>(&mut self, grammar: &G, line: &Line) -> Option<Looked>
         requires holds { Holds S.Score.meaning (line_of line.now) self.old (on_bench (line_of line.now) self.old) }
         requires room { length (on_bench (line_of line.now) self.old) + length (line_of line.now) ≤ 4097 }
         requires live { (c : List ℕ) → Contains (on_bench (line_of line.now) self.old) c → live (G.Grammar.meaning grammar.now).allows (line_of line.now) c ≡ true }
-        ensures { MatchOption result ((on_bench (line_of line.now) self.old ≡ []) × Holds S.Score.meaning (line_of line.now) self.new []) (λ reading. Seen S.Score.meaning (G.Grammar.meaning grammar.now).allows (line_of line.now) self.old self.new reading) }
+        ensures { MatchOption result ((on_bench (line_of line.now) self.old ≡ []) × Holds S.Score.meaning (line_of line.now) self.new []) (λ looked. Seen S.Score.meaning (G.Grammar.meaning grammar.now).allows (line_of line.now) self.old self.new looked.reading × (looked.is_admitted ≡ (G.Grammar.meaning grammar.now).admits (take (length (line_of line.now)) looked.reading.text))) }
     {
         let place = self.first()?;
         let total = place.grade.total;
@@ -234,15 +246,14 @@ impl<S: Score> Bench<S> {
         let mut taken = Taken::nothing();
         chain.take(&mut taken);
         let cells = line.cells().len();
-        self.exchange(
-            grammar,
-            chain,
-            &taken.text[..cells],
-            &taken.penalties[..cells],
-        );
-        Some(Reading {
-            text: taken.text,
-            total,
+        let text = &taken.text[..cells];
+        let is_open = self.exchange(grammar, chain, text, &taken.penalties[..cells]);
+        Some(Looked {
+            reading: Reading {
+                text: taken.text,
+                total,
+            },
+            is_admitted: is_open && grammar.is_admitted(text),
         })
     }
 
@@ -262,16 +273,16 @@ impl<S: Score> Bench<S> {
         // By the number: how many have been looked at is a part of the answer.
         for k in looked..granted {
             // No `?`: an empty bench ends the search with an answer too.
-            let Some(reading) = self.look(grammar, line) else {
+            let Some(look) = self.look(grammar, line) else {
                 return Sought {
                     looked: k,
                     reading: None,
                 };
             };
-            if grammar.is_admitted(&reading.text[..line.cells().len()]) {
+            if look.is_admitted {
                 return Sought {
                     looked: k + 1,
-                    reading: Some(reading),
+                    reading: Some(look.reading),
                 };
             }
         }

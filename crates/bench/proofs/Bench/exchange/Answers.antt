@@ -9,7 +9,7 @@ use Rattle.bench.specs.Held.{on_bench, beside, Holds}
 use Rattle.bench.proofs.Texts.{text_fills, penalties_long, raised_within, live_opens, child_total, before_next}
 use Rattle.bench.proofs.Benches.{many_on, exchanging_none, exchanging_same, exchanging_more, exchanged, children_none, children_yes, children_no, all_met}
 use Rattle.bench.proofs.Bench.exchange.Goals as goal
-use Rattle.bench.proofs.Bench.exchange.Goals.{in-Some, in_default}
+use Rattle.bench.proofs.Bench.exchange.Goals.{in-Some, in_default, then-is_first, else-is_first}
 
 pub loop-cell-init : goal.loop-cell-init
 loop-cell-init g c =
@@ -36,7 +36,7 @@ put_child-requires-clause-total g c =
     let chain = chosen c.args.parent in
     let s = g.S.Score.meaning in
     let i = c.loop-cell.cell in
-    let inside : i < length l = omega (arith, text_fills l chain c.args.text.now c.args.parent.of_line c.requires.text, c.loop-cell-test.true, c.open_cells-cell-end.ensures.within.1) in
+    let inside : i < length l = omega (arith, text_fills l chain c.args.text.now c.args.parent.of_line c.requires.text, c.loop-cell-test.true, c.open_cells-open.ensures.within.1) in
     let rest : take (length c.args.penalties.now - (i + 1)) (drop (i + 1) c.args.penalties.now) ≡ drop (i + 1) (penalties l chain) =
     take_all _ (drop (i + 1) c.args.penalties.now) (omega (arith, length-drop (i + 1) c.args.penalties.now)) ∙ ap (drop (i + 1)) c.requires.penalties in
     c.stepped.ensures
@@ -46,7 +46,7 @@ put_child-requires-clause-total g c =
 pub raised-requires : goal.raised-requires
 raised-requires g c =
     let l = cells_of c.args.parent in
-    omega (arith, text_fills l (chosen c.args.parent) c.args.text.now c.args.parent.of_line c.requires.text, c.loop-cell-test.true, c.open_cells-cell-end.ensures.within.1)
+    omega (arith, text_fills l (chosen c.args.parent) c.args.text.now c.args.parent.of_line c.requires.text, c.loop-cell-test.true, c.open_cells-open.ensures.within.1)
 
 pub put_child-requires-clause-holds : goal.put_child-requires-clause-holds
 put_child-requires-clause-holds g c = c.loop-cell.invariant.0.holds
@@ -61,7 +61,7 @@ put_child-requires-clause-room g c =
     let chain = chosen c.args.parent in
     let i = c.loop-cell.cell in
     let behind = drop 1 (on_bench l c.args.self.now) in
-    let inside : i < length l = omega (arith, text_fills l chain c.args.text.now c.args.parent.of_line c.requires.text, c.loop-cell-test.true, c.open_cells-cell-end.ensures.within.1) in
+    let inside : i < length l = omega (arith, text_fills l chain c.args.text.now c.args.parent.of_line c.requires.text, c.loop-cell-test.true, c.open_cells-open.ensures.within.1) in
     omega (arith, c.loop-cell.invariant.0.many, length-append behind (children_below allows l chain i), length-drop 1 (on_bench l c.args.self.now), many_on l c.args.self.now, children_few allows l chain i, c.requires.room, c.requires.some)
 
 pub loop-cell-preserved : goal.loop-cell-preserved
@@ -73,9 +73,9 @@ loop-cell-preserved g c =
     let s = g.S.Score.meaning in
     let behind = drop 1 (on_bench l c.args.self.now) in
     let before = children_below allows l chain i in
-    let opened : allows (take i (text l chain)) ≡ true = (rw c.requires.text at c.open_cells-cell-end.ensures.open) i c.loop-cell-test.true in
+    let opened : allows (take i (text l chain)) ≡ true = (rw c.requires.text at c.open_cells-open.ensures.open) i c.loop-cell-test.true in
     let inside : i < length (penalties l chain) =
-    omega (arith, text_fills l chain c.args.text.now c.args.parent.of_line c.requires.text, penalties_long l chain c.args.parent.of_line.long, c.loop-cell-test.true, c.open_cells-cell-end.ensures.within.1) in (
+    omega (arith, text_fills l chain c.args.text.now c.args.parent.of_line c.requires.text, penalties_long l chain c.args.parent.of_line.long, c.loop-cell-test.true, c.open_cells-open.ensures.within.1) in (
       elim c.match-raised.branch [
         | in-Some w ↦
             let told = w.in-Some.ensures in
@@ -90,37 +90,30 @@ loop-cell-preserved g c =
       c.step-before.ensures ∙ ap (λ ps. s.step c.loop-cell.before (get_or ps i 0)) c.requires.penalties ∙ before_next s (penalties l chain) i c.loop-cell.before inside c.loop-cell.invariant.1,
     )
 
-pub open_cells-cell-end-requires-clause-first : goal.open_cells-cell-end-requires-clause-first
-open_cells-cell-end-requires-clause-first g c =
+pub open_cells-open-requires-clause-first : goal.open_cells-open-requires-clause-first
+open_cells-open-requires-clause-first g c =
     let l = cells_of c.args.parent in
     let chain = chosen c.args.parent in
     omega (arith, text_fills l chain c.args.text.now c.args.parent.of_line c.requires.text, c.args.parent.of_line.long, c.last_raised-first.ensures, raised_within chain)
 
-pub open_cells-cell-end-requires-clause-open : goal.open_cells-cell-end-requires-clause-open
-open_cells-cell-end-requires-clause-open g c =
+pub open_cells-open-requires-clause-open : goal.open_cells-open-requires-clause-open
+open_cells-open-requires-clause-open g c =
     let l = cells_of c.args.parent in
     let chain = chosen c.args.parent in
     let sets = g.G.Grammar.meaning c.args.grammar.now in
     (λ j. sets.allows (take (c.last_raised-first.ensures j) (c.requires.text j))) ∙ live_opens sets (g.met.G.Grammar.laws c.args.grammar.now) l chain c.requires.live
 
-pub returns-then-is_first : goal.returns-then-is_first
-returns-then-is_first g c =
+pub returns-clause-holds : goal.returns-clause-holds
+returns-clause-holds g c =
     let l = cells_of c.args.parent in
     let s = g.S.Score.meaning in
     let sets = g.G.Grammar.meaning c.args.grammar.now in
-    let told = c.open_cells-cell-end.ensures in
-    let end : c.loop-cell.cell ≡ c.open_cells-cell-end.result = omega (arith, c.loop-cell-test.false, c.loop-cell.auto.cell-end, told.within.0) in
+    let told = c.open_cells-open.ensures in
+    let bench = c.loop-cell.self in
+    let end : c.loop-cell.cell ≡ c.open_cells-open.result = omega (arith, c.loop-cell-test.false, c.loop-cell.auto.cell-end, told.within.0) in
     let all = all_met sets (g.met.G.Grammar.laws c.args.grammar.now) l c.args.parent.of_line c.requires.text end told.within.1 told.shut in
-    exchanged s l c.loop-cell.is_first c.loop-cell.self c.loop-cell.invariant.0 (ap (λ cs. drop 1 (on_bench l c.args.self.now) ++ cs) all) c.remove_first.new.self
-    (subst (λ b. Holds s l c.remove_first.new.self (beside b l c.loop-cell.self)) (sym c.if-is_first.true) c.remove_first.ensures)
-
-pub returns-else-is_first : goal.returns-else-is_first
-returns-else-is_first g c =
-    let l = cells_of c.args.parent in
-    let s = g.S.Score.meaning in
-    let sets = g.G.Grammar.meaning c.args.grammar.now in
-    let told = c.open_cells-cell-end.ensures in
-    let end : c.loop-cell.cell ≡ c.open_cells-cell-end.result = omega (arith, c.loop-cell-test.false, c.loop-cell.auto.cell-end, told.within.0) in
-    let all = all_met sets (g.met.G.Grammar.laws c.args.grammar.now) l c.args.parent.of_line c.requires.text end told.within.1 told.shut in
-    exchanged s l c.loop-cell.is_first c.loop-cell.self c.loop-cell.invariant.0 (ap (λ cs. drop 1 (on_bench l c.args.self.now) ++ cs) all) c.loop-cell.self
-    (subst (λ b. Holds s l c.loop-cell.self (beside b l c.loop-cell.self)) (sym c.if-is_first.false) c.loop-cell.invariant.0.holds)
+    exchanged s l c.loop-cell.is_first bench c.loop-cell.invariant.0 (ap (λ cs. drop 1 (on_bench l c.args.self.now) ++ cs) all) c.if-is_first.self
+    (elim c.if-is_first.branch [
+      | then-is_first w ↦ subst (λ b. Holds s l b (beside c.loop-cell.is_first l bench)) (sym w.self-is) (subst (λ b. Holds s l w.remove_first.new.self (beside b l bench)) (sym w.if-is_first.true) w.remove_first.ensures)
+      | else-is_first w ↦ subst (λ b. Holds s l b (beside c.loop-cell.is_first l bench)) (sym w.self-is) (subst (λ b. Holds s l bench (beside b l bench)) (sym w.if-is_first.false) c.loop-cell.invariant.0.holds)
+    ])

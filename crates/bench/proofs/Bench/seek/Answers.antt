@@ -1,10 +1,9 @@
-use Rattle.std.proofs.Common.{◌≡◌, ◌+◌, ◌-◌, ◌<◌, ◌≤◌, min, false, length, take, drop, Some, None, sym, ap, ◌∙◌, subst, arith, length-drop}
+use Rattle.std.proofs.Common.{◌≡◌, ◌+◌, ◌-◌, ◌<◌, ◌≤◌, min, false, length, take, drop, Some, None, refl, sym, ap, ◌∙◌, subst, arith, length-drop}
 use Rattle.std.specs.List.{AllByRecursion}
 use Rattle.std.proofs.lemmas.List.{take-take, take_all}
 use Rattle.pages.specs.Answers.{line_of}
 use Rattle.search.specs.Chains.{ranking}
 use Rattle.bench.specs.Searched.{AgreesAt, admitted, due, came_to}
-use Rattle.bench.proofs.Lines.{as_many}
 use Rattle.bench.proofs.Searches.{room_left, all_live, look_gives, look_ends, agrees_empty, passed_more, here_in, none_passes, passes_first}
 use Rattle.bench.proofs.Bench.seek.Goals as goal
 
@@ -40,8 +39,8 @@ returns-in_default g c =
           ∙ ap (λ n. record { looked = n; reading = None }) (let last : min granted (length rk) ≡ k = omega (arith, c.loop-k-test.true) in last));
     }
 
-pub returns-then-is_admitted : goal.returns-then-is_admitted
-returns-then-is_admitted g c =
+pub returns-then-look : goal.returns-then-look
+returns-then-look g c =
     let s = g.S.Score.meaning in
     let sets = g.G.Grammar.meaning c.args.grammar.now in
     let line = c.args.line.now in
@@ -50,13 +49,13 @@ returns-then-is_admitted g c =
     let looked = c.args.looked in
     let granted = c.args.granted in
     let rk = ranking s sets.allows l in
-    let seen = c.in-Some.ensures in
+    let seen = c.in-Some.ensures.0 in
     let laws = g.met.S.Score.laws in
     let lawful = g.met.G.Grammar.laws c.args.grammar.now in
-    let look = look_gives s laws sets lawful l line.sound k granted c.loop-k.self c.look.new.self c.in-Some.reading c.loop-k.invariant.0 seen in
+    let look = look_gives s laws sets lawful l line.sound k granted c.loop-k.self c.look.new.self c.in-Some.look.reading c.loop-k.invariant.0 seen in
     let le : looked ≤ k = c.loop-k.auto.k in
     let lt : k < granted = omega (arith, c.loop-k-test.true, c.requires.agrees.within) in
-    let asked : sets.admits (take (length c.cells.result.now) c.in-Some.reading.text) ≡ admitted sets l seen.chain = ap sets.admits (look.text (length c.cells.result.now) (omega (arith, as_many line c.cells.result.now c.cells.ensures.items))) in
+    let asked : c.in-Some.look.is_admitted ≡ admitted sets l seen.chain = c.in-Some.ensures.1 ∙ ap sets.admits (look.text (length l) refl) in
     let short : k - looked ≤ granted - looked = omega arith in
     let last : looked + (k - looked) + 1 ≡ k + 1 = omega arith in
     record {
@@ -64,7 +63,7 @@ returns-then-is_admitted g c =
       sought = sym (ap (came_to s l looked granted (length rk)) (passes_first (admitted sets l) (k - looked) (due s sets l looked granted) seen.chain
           (subst (AllByRecursion (λ d. admitted sets l d ≡ false)) (sym (take-take (k - looked) (granted - looked) (drop looked rk) short)) c.loop-k.invariant.1)
           (here_in (λ d. admitted sets l d ≡ false) rk looked k le granted seen.chain lt look.next.1)
-          (sym (c.if-is_admitted.ensures ∙ asked)))
+          (sym asked ∙ c.if-look.true))
           ∙ (λ i. record { looked = last i; reading = Some (sym seen.reads i) }));
     }
 
@@ -78,14 +77,14 @@ loop-k-preserved g c =
     let looked = c.args.looked in
     let granted = c.args.granted in
     let rk = ranking s sets.allows l in
-    let seen = c.in-Some.ensures in
+    let seen = c.in-Some.ensures.0 in
     let laws = g.met.S.Score.laws in
     let lawful = g.met.G.Grammar.laws c.args.grammar.now in
-    let look = look_gives s laws sets lawful l line.sound k granted c.loop-k.self c.look.new.self c.in-Some.reading c.loop-k.invariant.0 seen in
-    let asked : sets.admits (take (length c.cells.result.now) c.in-Some.reading.text) ≡ admitted sets l seen.chain = ap sets.admits (look.text (length c.cells.result.now) (omega (arith, as_many line c.cells.result.now c.cells.ensures.items))) in (
+    let look = look_gives s laws sets lawful l line.sound k granted c.loop-k.self c.look.new.self c.in-Some.look.reading c.loop-k.invariant.0 seen in
+    let asked : c.in-Some.look.is_admitted ≡ admitted sets l seen.chain = c.in-Some.ensures.1 ∙ ap sets.admits (look.text (length l) refl) in (
       look.agrees (omega (arith, c.loop-k-test.true, c.requires.agrees.within)),
       passed_more (λ d. admitted sets l d ≡ false) rk looked k c.loop-k.auto.k seen.chain look.next.1 c.loop-k.invariant.1
-          (sym (c.if-is_admitted.ensures ∙ asked)),
+          (sym asked ∙ c.if-look.false),
     )
 
 pub returns : goal.returns
