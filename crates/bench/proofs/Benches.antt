@@ -1,5 +1,5 @@
 -- What a bench holds after a place is put onto it or taken from it. Assumes nothing.
-use Rattle.std.proofs.Common.{◌≡◌, ℕ, zero, suc, ◌+◌, ◌<◌, ◌≤◌, Bool, true, false, cond, not, ◌&&◌, ◌||◌, eqb, ltb, leb, ◌⊎◌, Contains, List, [], ◌∷◌, ◌++◌, map, length, get_or, take, drop, replicate, ◌-◌, heap_items, sym, refl, ap, ◌∙◌, subst, inl, inr, ⊎_elim, Some, None, Option, IfSome, IfNone, arith, length-append, length-take, get_or-take}
+use Rattle.std.proofs.Common.{◌≡◌, ℕ, zero, suc, ◌+◌, ◌<◌, ◌≤◌, Bool, true, false, cond, ◌&&◌, eqb, ltb, leb, Contains, List, [], ◌∷◌, ◌++◌, map, length, get_or, take, drop, replicate, ◌-◌, heap_items, sym, refl, ap, ◌∙◌, subst, inl, inr, ⊎_elim, Some, None, Option, IfSome, IfNone, arith, length-append, length-take, get_or-take}
 use Rattle.std.specs.List.Sorted.{IsPermutation}
 use Rattle.std.specs.List.{AllByRecursion}
 use Rattle.std.proofs.lemmas.List.Sorted.{length_permutation}
@@ -18,6 +18,7 @@ use Rattle.bench.specs.Order.{First, Before, Lower}
 use Rattle.bench.specs.Ranks.{ranks_of, chain_in}
 use Rattle.bench.specs.Held.{in_use, Placed, on_bench, beside, times, Holds, Taken, Seen}
 use Rattle.search.proofs.Members.{Contains-first}
+use Rattle.search.proofs.Order.{before_parts}
 use Rattle.search.proofs.Growth.{few_children}
 use Rattle.bench.proofs.Counts.{times_append, times_shuffled}
 use Rattle.bench.proofs.Orders.{begins}
@@ -130,11 +131,6 @@ lower_in n xs ys h =
       subst (λ z. z < get_or ys k 0) (get_or-take n xs k 0 lt) (subst (λ z. get_or (take n xs) k 0 < z) (get_or-take n ys k 0 lt) h.4),
     )
 
-ahead_parts : (x y b : Bool) → ((x && not y) || ((x && y) && b)) ≡ true → (x ≡ true) × ((y ≡ false) ⊎ ((y ≡ true) × (b ≡ true)))
-ahead_parts false y b h = absurd (false≢true h)
-ahead_parts true false b h = (refl, inl refl)
-ahead_parts true true b h = (refl, inr (refl, h))
-
 module _ {S : Type 0} (s : Meaning) (l : Cells) where
   -- of places with their totals, one whose chain stands before stands before
   before_places : (y x : Place S) → y.grade.total ≡ total s l (chain_in l y.ranks.0) → x.grade.total ≡ total s l (chain_in l x.ranks.0)
@@ -142,7 +138,7 @@ module _ {S : Type 0} (s : Meaning) (l : Cells) where
   before_places y x ey ex h =
       let a = total s l (chain_in l y.ranks.0) in
       let b = total s l (chain_in l x.ranks.0) in
-      let q = ahead_parts (s.no_worse a b) (s.no_worse b a) (lower (chain_in l y.ranks.0) (chain_in l x.ranks.0)) h in
+      let q = before_parts s l (chain_in l y.ranks.0) (chain_in l x.ranks.0) h in
       let one : s.no_worse y.grade.total x.grade.total ≡ true = (λ i. s.no_worse (ey i) (ex i)) ∙ q.0 in
       let back : s.no_worse x.grade.total y.grade.total ≡ s.no_worse b a = (λ i. s.no_worse (ex i) (ey i)) in
       ⊎_elim (λ e. inl (one, back ∙ e)) (λ e. inr (one, back ∙ e.0, lower_in (length l) (ranks_of y.ranks.0) (ranks_of x.ranks.0) (lower_at _ _ e.1))) q.1

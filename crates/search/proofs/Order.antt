@@ -62,21 +62,23 @@ ahead_from true false l h k = refl
 ahead_from true true l h (inl e) = absurd (false≢true (sym e))
 ahead_from true true l h (inr e) = e
 
-ahead_parts : (x y l : Bool) → ((x && not y) || ((x && y) && l)) ≡ true → (x ≡ true) × ((y ≡ false) ⊎ (l ≡ true))
+ahead_parts : (x y l : Bool) → ((x && not y) || ((x && y) && l)) ≡ true → (x ≡ true) × ((y ≡ false) ⊎ ((y ≡ true) × (l ≡ true)))
 ahead_parts false y l h = absurd (false≢true h)
 ahead_parts true false l h = (refl, inl refl)
-ahead_parts true true l h = (refl, inr h)
+ahead_parts true true l h = (refl, inr (refl, h))
+
+-- what stands before has the better total, or one equally good and the lower rank in the first cell where they differ
+pub before_parts : (s : Meaning) (line : Cells) (a b : Chain) → before s line a b ≡ true
+    → (s.no_worse (total s line a) (total s line b) ≡ true) × ((s.no_worse (total s line b) (total s line a) ≡ false) ⊎ ((s.no_worse (total s line b) (total s line a) ≡ true) × (lower a b ≡ true)))
+before_parts s line a b h = ahead_parts (s.no_worse (total s line a) (total s line b)) (s.no_worse (total s line b) (total s line a)) (lower a b) h
 
 module _ (s : Meaning) (laws : Laws s) (line : Cells) where
   pub before_from : (a b : Chain) → s.no_worse (total s line a) (total s line b) ≡ true → (s.no_worse (total s line b) (total s line a) ≡ false) ⊎ (lower a b ≡ true) → before s line a b ≡ true
   before_from a b h k = ahead_from (s.no_worse (total s line a) (total s line b)) (s.no_worse (total s line b) (total s line a)) (lower a b) h k
 
-  before_parts : (a b : Chain) → before s line a b ≡ true → (s.no_worse (total s line a) (total s line b) ≡ true) × ((s.no_worse (total s line b) (total s line a) ≡ false) ⊎ (lower a b ≡ true))
-  before_parts a b h = ahead_parts (s.no_worse (total s line a) (total s line b)) (s.no_worse (total s line b) (total s line a)) (lower a b) h
-
   pub before_self : (a : Chain) → before s line a a ≡ false
   before_self a = ⊎_elim
-      (λ (h : before s line a a ≡ true). let q = before_parts a a h in absurd (⊎_elim (λ (z : s.no_worse (total s line a) (total s line a) ≡ false). both_ways _ z q.0) (lower_self a) q.1))
+      (λ (h : before s line a a ≡ true). let q = before_parts s line a a h in absurd (⊎_elim (λ (z : s.no_worse (total s line a) (total s line a) ≡ false). both_ways _ z q.0) (λ l. lower_self a l.1) q.1))
       (λ h. h) (cases_Bool (before s line a a))
 
   pub before_trans : (a b c : Chain) → before s line a b ≡ true → before s line b c ≡ true → before s line a c ≡ true
@@ -84,13 +86,13 @@ module _ (s : Meaning) (laws : Laws s) (line : Cells) where
       let A = total s line a in
       let B = total s line b in
       let D = total s line c in
-      let p = before_parts a b h in
-      let q = before_parts b c k in
+      let p = before_parts s line a b h in
+      let q = before_parts s line b c k in
       before_from a c (laws.transitive A B D p.0 q.0)
       (⊎_elim
       (λ (back : s.no_worse D A ≡ true). inr (lower_trans a b c
-      (⊎_elim (λ (z : s.no_worse B A ≡ false). absurd (both_ways _ z (laws.transitive B D A q.0 back))) (λ l. l) p.1)
-      (⊎_elim (λ (z : s.no_worse D B ≡ false). absurd (both_ways _ z (laws.transitive D A B back p.0))) (λ l. l) q.1)))
+      (⊎_elim (λ (z : s.no_worse B A ≡ false). absurd (both_ways _ z (laws.transitive B D A q.0 back))) (λ l. l.1) p.1)
+      (⊎_elim (λ (z : s.no_worse D B ≡ false). absurd (both_ways _ z (laws.transitive D A B back p.0))) (λ l. l.1) q.1)))
       (λ no_way. inl no_way)
       (cases_Bool (s.no_worse D A)))
 
