@@ -16,6 +16,7 @@ pub(crate) struct Taken {
 }
 
 impl Taken {
+    // Before anything is filled in.
     pub(crate) fn nothing() -> Taken
         ensures text { result.text ≡ replicate 24 0 }
         ensures penalties { result.penalties ≡ replicate 24 0 }

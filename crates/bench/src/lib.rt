@@ -220,7 +220,7 @@ impl<S: Score> Bench<S> {
             }
             before = S::step(before, penalties[cell]);
         }
-        // The parent stands there yet where it has no children.
+        // Without children the parent stands there still.
         if is_first {
             self.remove_first(parent.line);
         }
@@ -228,8 +228,8 @@ impl<S: Score> Bench<S> {
     }
 
     // Looks at the first chain on the bench, and leaves its children in its place. The grammar is asked for the text only
-    // where no opening has told already that it is not admitted. Grammar and line are two arguments, as the
-    // caller has them apart.
+    // where no opening has told already that it is not admitted. Grammar and line are two arguments, as the caller has them
+    // apart.
     fn look<G: Grammar>(&mut self, grammar: &G, line: &Line) -> Option<Looked>
         requires holds { Holds S.Score.meaning (line_of line.now) self.old (on_bench (line_of line.now) self.old) }
         requires room { length (on_bench (line_of line.now) self.old) + length (line_of line.now) ≤ 4097 }
