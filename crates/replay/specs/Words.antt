@@ -2,11 +2,9 @@
 use Rattle.std.specs.Prelude.{ℕ, List, [], ◌∷◌, ◌++◌, take, Some, None, Ok, Err, Option, Result, codes, decimal}
 use Rattle.std.specs.Borrow.{Bor}
 use Rattle.std.specs.Str.Lossy.{utf8_lossy}
-use Rattle.reports.specs.Words.{page_words}
-use Rattle.reader.specs.Refusals.{number_of, explained}
 use Rattle.reader.specs.declared.calls.Outcome.TheVariants.{Found, Spent, Exhausted}
 use Rattle.reader.specs.declared.refusals.Refusal.{Refusal}
-use Rattle.reader.specs.declared.refusals.Refusal.TheVariants as refusal
+use Rattle.refusalwords.specs.Words.{refused_words}
 use Rattle.runs.specs.declared.rows.Call.{Call}
 use Rattle.runs.specs.declared.rows.Call.TheVariants as call
 use Rattle.runs.specs.declared.rows.Row.{Row}
@@ -32,11 +30,6 @@ unfoldable pub setting_fault_words : SettingFault → List ℕ
 setting_fault_words (Corner f) = fault_words f
 setting_fault_words Arguments = codes "the arguments are [sheet SOUTHWEST NORTHEAST] [shares], a corner as 4900000N00600000W"
 
--- why a call was refused, of a bad page by the bytes of the page
-abbrev pub reason_words : List ℕ → Refusal → List ℕ
-reason_words page (refusal.Page f) = page_words page f
-reason_words page r = explained r
-
 -- what a call answered, of a reading by the first bytes of its place
 abbrev pub answer_words : List ℕ → List ℕ → Result Answer Refusal → List ℕ
 answer_words page place (Ok Loaded) = codes "loaded"
@@ -47,7 +40,7 @@ answer_words page place (Ok (Next Exhausted)) = codes "exhausted"
 answer_words page place (Ok (Reported r)) =
     decimal r.cells
     ++ (codes " cells, " ++ (decimal r.granted ++ (codes " granted, " ++ (decimal r.looked ++ (codes " looked at, " ++ (decimal r.handed ++ (codes " handed out, " ++ (decimal r.places ++ codes " places in use"))))))))
-answer_words page place (Err r) = codes "refused " ++ (decimal (number_of r) ++ (codes ", " ++ reason_words page r))
+answer_words page place (Err r) = refused_words page r
 
 -- the page of a load, and the place of a next, among the bytes lent
 abbrev pub page_of : List ℕ → Call → List ℕ

@@ -1,10 +1,10 @@
 // What a call answered, in words.
 ghost use Rattle.std.specs.Prelude.{◌≡◌, IfOk, string_bytes};
 ghost use Rattle.runs.specs.Runs.{cut};
-ghost use Rattle.replay.specs.Words.{reason_words, answer_words, page_of, place_of, call_line};
+ghost use Rattle.replay.specs.Words.{answer_words, page_of, place_of, call_line};
 
 use reader::{Outcome, Refusal, Report};
-use reports::explain;
+use refusalwords::refused;
 use runs::{Answer, Call, Part, Row};
 use std::alloc::{AllocError, Global};
 
@@ -33,16 +33,6 @@ fn place_of(places: &[u8], call: Call) -> &[u8]
     match call {
         Call::Next { place } => lent(places, place),
         Call::Load { .. } | Call::Grant { .. } | Call::Report => &[],
-    }
-}
-
-// Why a call was refused. A bad page has the words that its report has.
-fn reason(heap: Global, page: &[u8], refusal: Refusal) -> Result<String, AllocError>
-    ensures { IfOk result (λ s. string_bytes s ≡ reason_words page.now refusal) }
-{
-    match refusal {
-        Refusal::Page(fault) => explain(heap, page, fault),
-        other => other.explanation().to_string(heap),
     }
 }
 
@@ -76,11 +66,7 @@ fn answer_in_words(
                 "{cells} cells, {granted} granted, {looked} looked at, {handed} handed out, {places} places in use"
             )
         }
-        Err(refusal) => {
-            let number = refusal.number();
-            let reason = reason(heap, page, refusal)?;
-            format!(in heap; "refused {number}, {reason}")
-        }
+        Err(refusal) => refused(heap, page, refusal),
     }
 }
 

@@ -1,24 +1,13 @@
 -- The words of the program. Assumes nothing.
 use Rattle.std.specs.Prelude.{ℕ, List, ◌++◌, codes, decimal}
 use Rattle.hex.specs.Hex.{encode_upper}
-use Rattle.reports.specs.Words.{page_words}
 use Rattle.descriptions.specs.declared.Kind.{Kind}
 use Rattle.descriptions.specs.Words.{kind_words}
 use Rattle.reader.specs.Refusals.{number_of, explained}
-use Rattle.reader.specs.declared.refusals.Refusal.{Refusal}
-use Rattle.reader.specs.declared.refusals.Refusal.TheVariants as refusal
 use Rattle.wheelhouse.specs.declared.words.Note.{Note}
 use Rattle.wheelhouse.specs.declared.words.Note.TheVariants.{Help, NoAnswer, NothingShown, Granted, Refused}
 use Rattle.wheelhouse.specs.declared.words.Unfound.{Unfound}
 use Rattle.wheelhouse.specs.declared.words.Unfound.TheVariants.{Spent, SpentAll, Exhausted}
-
--- why a call of the reader was refused, of a bad page by its bytes
-abbrev pub cause_words : List ℕ → Refusal → List ℕ
-cause_words page (refusal.Page f) = page_words page f
-cause_words page r = explained r
-
-abbrev pub refusal_words : List ℕ → Refusal → List ℕ
-refusal_words page r = codes "refused " ++ (decimal (number_of r) ++ (codes ", " ++ cause_words page r))
 
 unfoldable pub note_words : Note → List ℕ
 note_words Help = codes "y confirms the reading shown, n calls for the next best, g N grants N more chains, q leaves the line"

@@ -16,8 +16,9 @@ mod words;
 
 use crate::desk::{Desk, Reply, Trouble};
 use crate::task::{Task, task_of};
-use crate::words::{LEFT, Note, refused};
+use crate::words::{LEFT, Note};
 use anyhow::Context;
+use refusalwords::refused;
 use std::alloc::Global;
 use std::io::ErrorKind;
 use std::process::ExitCode;

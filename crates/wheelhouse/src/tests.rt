@@ -7,8 +7,8 @@ use crate::answers::{Answer, read_answer};
 use crate::begin;
 use crate::desk::{Desk, Reply, Trouble};
 use crate::task::task_of;
-use crate::words::refused;
 use reader::Refusal;
+use refusalwords::refused;
 use std::test::Fail;
 
 // The page of the stored run.

@@ -1,11 +1,10 @@
 // What the owner is told.
 ghost use Rattle.std.specs.Prelude.{◌≡◌, ◌++◌, Some, IfOk, string_bytes};
 ghost use Rattle.reader.specs.declared.refusals.Refusal.{Refusal};
-ghost use Rattle.wheelhouse.specs.Words.{refusal_words, note_words, unfound_words, reading_words, plotted_words};
+ghost use Rattle.wheelhouse.specs.Words.{note_words, unfound_words, reading_words, plotted_words};
 
 use descriptions::Kind;
 use reader::Refusal;
-use reports::explain;
 use std::alloc::{AllocError, Global};
 use std::fmt;
 
@@ -32,23 +31,6 @@ pub enum Unfound {
     // The grant is used up, and is the most.
     SpentAll { granted: usize },
     Exhausted,
-}
-
-// Why no line could be loaded: a bad page has the words that its report has.
-pub fn refused(heap: Global, page: &[u8], refusal: Refusal) -> Result<String, AllocError>
-    ensures { IfOk result (λ s. string_bytes s ≡ refusal_words page.now refusal) }
-{
-    let number = refusal.number();
-    match refusal {
-        Refusal::Page(fault) => {
-            let words = explain(heap, page, fault)?;
-            format!(in heap; "refused {number}, {words}")
-        }
-        other => {
-            let words = other.explanation();
-            format!(in heap; "refused {number}, {words}")
-        }
-    }
 }
 
 impl fmt::Display for Note {
