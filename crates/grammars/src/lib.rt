@@ -99,7 +99,8 @@ impl<P: Grammar, Q: Grammar> Grammar for Then<P, Q> {
           begun = then_begun t.cut p.admits p.allows q.admits q.allows below_p.begun below_q.begun;
         } };
 
-    // A text is admitted that is one of `cut` symbols for the head and then one for the tail.
+    // A text is admitted that is one of `cut` symbols for the head and then one for the tail. The tail is asked first, as
+    // its length alone often tells.
     #[tactic(auto, using(crate::proofs::Joined::joined))]
     fn is_admitted(&self, text: &[u8]) -> bool
         ensures value { result ≡ split_at self.now.cut (P.Grammar.meaning self.now.head).admits (Q.Grammar.meaning self.now.tail).admits text.now }
@@ -108,7 +109,7 @@ impl<P: Grammar, Q: Grammar> Grammar for Then<P, Q> {
         let Some((head, tail)) = text.split_at_checked(usize::from(self.cut)) else {
             return false;
         };
-        self.head.is_admitted(head) && self.tail.is_admitted(tail)
+        self.tail.is_admitted(tail) && self.head.is_admitted(head)
     }
 
     // Up to the cut the head alone is asked, and of the whole opening: so the length is tested.
@@ -118,6 +119,6 @@ impl<P: Grammar, Q: Grammar> Grammar for Then<P, Q> {
             return self.head.is_allowed(opening);
         }
         let (head, tail) = opening.split_at(cut);
-        self.head.is_admitted(head) && self.tail.is_allowed(tail)
+        self.tail.is_allowed(tail) && self.head.is_admitted(head)
     }
 }
