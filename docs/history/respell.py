@@ -1,7 +1,7 @@
 #!/usr/bin/env python3
 """Respells the names that this repository declares in its specs/ and proofs/: `a-b` becomes `a_b`, `A-b` becomes `AB`.
 
-usage: python3 tools/respell.py        once, at the top of the repository
+usage: python3 docs/history/respell.py        once, at the top of the repository
 
 A name is respelled where it is one that an .antt file here declares: in .antt files, in the clauses and imports of .rt
 files, in edits, and between backquotes in the pages of docs/ and the README. What the check names itself (goals, steps,

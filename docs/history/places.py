@@ -1,7 +1,7 @@
 #!/usr/bin/env python3
 """Lists the places of the code that an older form of the language may have shaped, a section for each kind.
 
-    python3 tools/places.py [FOLDER [--without CRATE ..]]     the folder that holds crates/ (by default the repository)
+    python3 docs/history/places.py [FOLDER [--without CRATE ..]]     the folder that holds crates/ (by default the repository)
 
 1 own enums, flags, numbers for kinds; 2 functions of one shape; 3 loops that count; 4 comparisons, conversions and printing
 by hand; 5 clauses and parameters that stand together in three functions or more; 6 buffers of a fixed size; 7 functions as
@@ -12,7 +12,7 @@ import pathlib
 import re
 import sys
 
-top = pathlib.Path(sys.argv[1]) if len(sys.argv) > 1 else pathlib.Path(__file__).resolve().parent.parent
+top = pathlib.Path(sys.argv[1]) if len(sys.argv) > 1 else pathlib.Path(__file__).resolve().parent.parent.parent
 left_out = set(sys.argv[3:]) if sys.argv[2:3] == ["--without"] else set()
 sources = sorted(p for p in top.glob("crates/*/src/**/*.rt") if p.relative_to(top).parts[1] not in left_out)
 texts = {p: p.read_text() for p in sources}
