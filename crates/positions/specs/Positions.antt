@@ -1,5 +1,6 @@
 -- Positions: 17 symbols, a latitude and then a longitude.
 use Rattle.std.specs.Prelude.{◌≡◌, ℕ, Bool, true, cond, ◌&&◌, List, ◌++◌, length, take, drop, ℤ, Ok, Err, Result, ◌==◌, nat_le}
+use Rattle.placefault.specs.Numbers.{place_number}
 use Rattle.positions.specs.declared.angles.Axis.TheVariants.{Latitude, Longitude}
 use Rattle.positions.specs.declared.Refusal.{Refusal}
 use Rattle.positions.specs.declared.Refusal.TheVariants.{Place, Position}
@@ -7,7 +8,7 @@ use Rattle.positions.specs.Angles.{in_range, is_angle, angle_of, angle_text}
 
 -- the number of a refusal
 abbrev pub refusal : Refusal → ℕ
-refusal Place = 10
+refusal Place = place_number
 refusal Position = 11
 
 -- the latitude y and the longitude x are in range

@@ -5,15 +5,16 @@ ghost use Rattle.std.specs.Prelude.{◌≡◌, ℕ, List, ◌++◌, length, take
 ghost use Rattle.positions.specs.Positions.{refusal, reading, is_pair, position_text, writing, Says};
 
 pub use crate::angles::Axis;
+use placefault::PlaceFault;
 
 pub mod angles;
 pub mod numerals;
 
-// Why a position is refused: it is none, or its place is too short. Each has the number that is returned for it.
+// Why a position is refused: it is none, or its place is too short.
 #[derive(Clone, Copy, Debug, PartialEq, Eq)]
 pub enum Refusal {
-    Place = 10,
-    Position = 11,
+    Place,
+    Position,
 }
 
 impl Refusal {
@@ -21,7 +22,10 @@ impl Refusal {
     pub fn number(self) -> u8
         ensures { result ≡ refusal self }
     {
-        self as u8
+        match self {
+            Refusal::Place => PlaceFault.number(),
+            Refusal::Position => 11,
+        }
     }
 }
 
