@@ -1,4 +1,5 @@
 pub mod Answers
+pub mod Refusals
 pub mod Pages
 pub mod Rows
 pub mod Runs

@@ -1,19 +1,17 @@
 -- What judging a page says of it. Assumes nothing.
-use Rattle.std.specs.Prelude.{ℕ, ◌-◌, ◌^◌, Some, None, Ok, Err, Option, Result, length}
+use Rattle.std.specs.Prelude.{Ok, Err, Result, length}
 use Rattle.pages.specs.declared.faults.PageFault.{PageFault}
 use Rattle.pages.specs.Shape.{Lines}
-use Rattle.pages.specs.Faults.{page_returns, page_line, page_cell}
+use Rattle.pages.specs.Faults.{page_details}
 use Rattle.ffi.specs.declared.page.Checked.{Checked}
+use Rattle.ffi.specs.declared.refusals.RefusalFields.{RefusalFields}
+use Rattle.ffi.specs.Refusals.{none, fields_of}
 
--- stands where there is no such number: the greatest of 64 bits
-abbrev pub none : ℕ
-none = 2 ^ 64 - 1
+-- what is told of a bad page
+abbrev pub fault_checked : RefusalFields → Checked
+fault_checked f = record { lines = 0; place = f.place; line = f.line; cell = f.cell }
 
-abbrev pub or_none : Option ℕ → ℕ
-or_none (Some n) = n
-or_none None = none
-
--- how many lines a good page has; of a bad one the byte place of its fault, and the line and the cell that it was met in
+-- how many lines a good page has; of a bad one the values of its fault
 abbrev pub checked_of : Result Lines PageFault → Checked
 checked_of (Ok lines) = record { lines = length lines; place = none; line = none; cell = none }
-checked_of (Err f) = record { lines = 0; place = (page_returns f).place; line = or_none (page_line f); cell = or_none (page_cell f) }
+checked_of (Err f) = fault_checked (fields_of (page_details f))

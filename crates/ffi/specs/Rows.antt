@@ -1,12 +1,10 @@
 -- The rows of a run: which call a row asks for, and how what came of it is told, in the numbers of include/markbook.h. Assumes nothing.
 use Rattle.std.specs.Prelude.{ℕ, Bool, cond, ◌&&◌, List, [], ◌∷◌, Some, None, Ok, Err, Option, Result, ◌==◌, nat_le}
-use Rattle.pages.specs.Faults.{page_returns, page_line, page_cell}
 use Rattle.reader.specs.declared.calls.Outcome.{Outcome}
 use Rattle.reader.specs.declared.calls.Outcome.TheVariants.{Found, Spent, Exhausted}
 use Rattle.reader.specs.declared.calls.Report.{Report}
 use Rattle.reader.specs.declared.refusals.Refusal.{Refusal}
-use Rattle.reader.specs.declared.refusals.Refusal.TheVariants.{Page}
-use Rattle.reader.specs.Refusals.{number_of}
+use Rattle.reader.specs.Refusals.{details_of}
 use Rattle.runs.specs.declared.rows.Call.{Call}
 use Rattle.runs.specs.declared.rows.Call.TheVariants as call
 use Rattle.runs.specs.declared.rows.Answer.{Answer}
@@ -15,7 +13,8 @@ use Rattle.runs.specs.declared.rows.Row as inner
 use Rattle.ffi.specs.declared.rows.Asked.{Asked}
 use Rattle.ffi.specs.declared.rows.Came.{Came}
 use Rattle.ffi.specs.declared.rows.Row.{Row}
-use Rattle.ffi.specs.Pages.{none, or_none}
+use Rattle.ffi.specs.declared.refusals.RefusalFields.{RefusalFields}
+use Rattle.ffi.specs.Refusals.{none, fields_of}
 
 -- there is a call of the number: 1 load, 2 grant, 3 next, 4 report
 abbrev pub is_call : Asked → Bool
@@ -47,14 +46,12 @@ next_came Exhausted = only 5
 abbrev pub report_came : Report → Came
 report_came r = record (only 6) { cells = r.cells; granted = r.granted; looked = r.looked; handed = r.handed; places = r.places }
 
--- 7 refused, with the number of the refusal
-abbrev pub refused_by : Refusal → Came
-refused_by r = record (only 7) { refused = number_of r }
+-- 7 refused, with the number of the refusal and its values
+abbrev pub refused_by : RefusalFields → Came
+refused_by f = record (only 7) { refused = f.number; place = f.place; line = f.line; cell = f.cell }
 
--- and of a bad page also the byte place, the line and the cell of its fault
 abbrev pub refusal_came : Refusal → Came
-refusal_came (Page f) = record (refused_by (Page f)) { place = (page_returns f).place; line = or_none (page_line f); cell = or_none (page_cell f) }
-refusal_came r = refused_by r
+refusal_came r = refused_by (fields_of (details_of r))
 
 -- 0 not made, 1 loaded, 2 granted
 abbrev pub came_of : Option (Result Answer Refusal) → Came

@@ -6,5 +6,6 @@ mod answers;
 mod list;
 mod page;
 mod position;
+mod refusals;
 mod rows;
 mod run;

@@ -1,7 +1,7 @@
 // Lists the dates of a page.
 ghost use Rattle.std.specs.Prelude.{◌≡◌, ◌⊎◌, ◌==◌, cond};
 ghost use Rattle.lists.specs.Calls.{listing};
-ghost use Rattle.pages.specs.Writing.{place_number};
+ghost use Rattle.placefault.specs.Numbers.{place_number};
 ghost use Rattle.ffi.specs.Answers.{answered, given_or};
 
 use crate::answers::{DONE, MEMORY};

@@ -1,11 +1,12 @@
 // Judges a page.
 ghost use Rattle.std.specs.Prelude.{◌≡◌};
 ghost use Rattle.pages.specs.Reading.{read_page};
-ghost use Rattle.pages.specs.Faults.{page_returns};
+ghost use Rattle.pages.specs.Faults.{page_details};
 ghost use Rattle.ffi.specs.Answers.{answered};
 ghost use Rattle.ffi.specs.Pages.{checked_of};
 
 use crate::answers::{DONE, NONE};
+use crate::refusals::RefusalFields;
 use lists::count_lines;
 
 // What is said of a page.
@@ -21,7 +22,7 @@ pub struct Checked {
 // Judges a page, and says what is wrong with it and where.
 #[unsafe(no_mangle)]
 pub extern "C" fn markbook_check_page(page: &[u8], checked: &mut Checked) -> u8
-    ensures answer { result ≡ answered (λ f. (page_returns f).number) (read_page page.now) }
+    ensures answer { result ≡ answered (λ f. (page_details f).number) (read_page page.now) }
     ensures checked { checked.new ≡ checked_of (read_page page.now) }
 {
     match count_lines(page) {
@@ -35,13 +36,14 @@ pub extern "C" fn markbook_check_page(page: &[u8], checked: &mut Checked) -> u8
             DONE
         }
         Err(fault) => {
+            let fields = RefusalFields::of(fault.details());
             *checked = Checked {
                 lines: 0,
-                place: fault.place(),
-                line: fault.line().unwrap_or(NONE),
-                cell: fault.cell().unwrap_or(NONE),
+                place: fields.place,
+                line: fields.line,
+                cell: fields.cell,
             };
-            fault.number()
+            fields.number
         }
     }
 }

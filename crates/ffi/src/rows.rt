@@ -3,6 +3,7 @@ ghost use Rattle.std.specs.Prelude.{◌≡◌};
 ghost use Rattle.ffi.specs.Rows.{is_call, call_of, row_of, only, next_came, report_came, refusal_came, came_of};
 
 use crate::answers::NONE;
+use crate::refusals::RefusalFields;
 use reader::{Outcome, Refusal, Report};
 use runs::{Answer, Call, Part};
 
@@ -159,18 +160,13 @@ impl Came {
     fn refusal(refusal: Refusal) -> Came
         ensures { result ≡ refusal_came refusal }
     {
-        let came = Came {
-            refused: u32::from(refusal.number()),
+        let fields = RefusalFields::of(refusal.details());
+        Came {
+            refused: u32::from(fields.number),
+            place: fields.place,
+            line: fields.line,
+            cell: fields.cell,
             ..Came::only(REFUSED)
-        };
-        match refusal {
-            Refusal::Page(fault) => Came {
-                place: fault.place(),
-                line: fault.line().unwrap_or(NONE),
-                cell: fault.cell().unwrap_or(NONE),
-                ..came
-            },
-            _ => came,
         }
     }
 

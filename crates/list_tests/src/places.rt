@@ -2,7 +2,7 @@
 use crate::lists_made::DATE_PAGE;
 use grammars::date::Date;
 use lists::list_dates;
-use pages::PlaceFault;
+use placefault::PlaceFault;
 use reader::{Outcome, Reader};
 use scores::Sum;
 use std::test::Fail;

@@ -1,7 +1,7 @@
 -- What listing a page answers and leaves, and what its steps come to. Assumes nothing.
 use Rattle.std.specs.Prelude.{ℕ, cond, List, [], ◌∷◌, ◌++◌, length, drop, Some, None, Ok, Err, Option, Result, codes, decimal, nat_lt, slice_index_or, take}
+use Rattle.placefault.specs.declared.PlaceFault.{PlaceFault}
 use Rattle.pages.specs.declared.faults.PageFault.{PageFault}
-use Rattle.pages.specs.declared.writer.PlaceFault.{PlaceFault}
 use Rattle.pages.specs.Shape.{Cells, Lines}
 use Rattle.pages.specs.Reading.{read_page}
 use Rattle.scores.specs.Scores.{sum_meaning}

@@ -11,7 +11,8 @@ ghost use Rattle.lists.specs.Calls.{listing, counted, lines_in, line_at, came, s
 use crate::rows::{List, MOST_BYTES, Row, list_refusal, put_header, put_row};
 use arrayvec::ArrayVec;
 use grammars::date::Date;
-use pages::{MOST_CELLS, PageFault, PageLines, PlaceFault};
+use pages::{MOST_CELLS, PageFault, PageLines};
+use placefault::PlaceFault;
 use reader::{Outcome, Reader};
 use scores::Sum;
 

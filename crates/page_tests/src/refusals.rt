@@ -1,6 +1,6 @@
 // Every refusal at its first and last possible place, and which of two faults is named. A refusal is held to its number.
 use crate::pages_made::{DATE_PAGE, EvenPage, altered, longer};
-use pages::line_of_page;
+use pages::{Details, line_of_page};
 use std::process::Abort;
 use std::test::Fail;
 
@@ -40,6 +40,13 @@ impl Case<'_> {
         assert_eq!(rt; fault.place(), self.place, "{name}: place");
         assert_eq!(rt; fault.line(), self.line, "{name}: line");
         assert_eq!(rt; fault.cell(), self.cell, "{name}: cell");
+        let details = Details {
+            place: Some(self.place),
+            line: self.line,
+            cell: self.cell,
+            ..Details::number_alone(self.number)
+        };
+        assert_eq!(rt; fault.details(), details, "{name}: details");
     }
 }
 

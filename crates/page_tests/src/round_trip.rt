@@ -1,4 +1,5 @@
-// What is written of a line is what it was read from. A refusal is held to its number, of docs/page-file.md.
+// What is written of a line is what it was read from. A refusal is held to its number, of
+// docs/refusals.md.
 use crate::pages_made::{DATE_PAGE, line_in};
 use pages::write_line;
 use std::test::Fail;

@@ -1,4 +1,4 @@
--- What each fault returns, and in which line and cell it was met. Assumes nothing.
+-- What each fault returns, in which line and cell it was met, and both together. Assumes nothing.
 use Rattle.std.specs.Prelude.{ℕ, Some, None, Option}
 use Rattle.pages.specs.declared.faults.CountFault.{CountFault}
 use Rattle.pages.specs.declared.faults.CountFault.TheVariants as count
@@ -11,6 +11,7 @@ use Rattle.pages.specs.declared.faults.LineFault.TheVariants as line
 use Rattle.pages.specs.declared.faults.PageFault.{PageFault}
 use Rattle.pages.specs.declared.faults.PageFault.TheVariants as page
 use Rattle.pages.specs.declared.faults.Returned.{Returned}
+use Rattle.pages.specs.declared.faults.Details.{Details}
 
 -- the number and the byte place of every fault: 1 Short, 2 Count, 3 Symbol, 4 Twice, 5 Order, 6 Excess
 abbrev pub count_returns : CountFault → Returned
@@ -50,3 +51,15 @@ abbrev pub page_cell : PageFault → Option ℕ
 page_cell (page.Count f) = None
 page_cell (page.Line f) = line_cell f.fault
 page_cell (page.Excess at) = None
+
+-- a refusal that has its number alone
+abbrev pub number_alone : ℕ → Details
+number_alone n = record { number = n; place = None; line = None; cell = None }
+
+-- a bad page has the byte place of its fault, and the line and the cell that it was met in
+abbrev pub page_details : PageFault → Details
+page_details f = record (number_alone (page_returns f).number) {
+  place = Some (page_returns f).place;
+  line = page_line f;
+  cell = page_cell f;
+}

@@ -11,7 +11,7 @@ use Rattle.pages.specs.declared.faults.LineFault.TheVariants as line
 use Rattle.pages.specs.declared.faults.PageFault.{PageFault}
 use Rattle.pages.specs.declared.faults.PageFault.TheVariants as page
 use Rattle.pages.specs.declared.faults.Returned.{Returned}
-use Rattle.pages.specs.declared.writer.PlaceFault.{PlaceFault}
+use Rattle.placefault.specs.declared.PlaceFault.{PlaceFault}
 use Rattle.pages.specs.Shape.{Cells, Lines, every, well_formed_cell, well_formed_line, well_formed_page}
 use Rattle.pages.specs.Faults.{count_returns, page_returns}
 use Rattle.pages.specs.Reading.{read_count, read_cell, read_line, read_page}

@@ -1,8 +1,8 @@
 -- The bytes of a line and of a page, and where a line is written. Assumes nothing.
 use Rattle.std.specs.Prelude.{◌≡◌, ℕ, ◌/◌, ◌%◌, ◌<◌, ◌≤◌, List, [], ◌∷◌, ◌++◌, length, drop, Ok, Err, Result}
 use Rattle.std.specs.List.{flat_map}
+use Rattle.placefault.specs.declared.PlaceFault.{PlaceFault}
 use Rattle.pages.specs.declared.lines.Alternative.{Alternative}
-use Rattle.pages.specs.declared.writer.PlaceFault.{PlaceFault}
 use Rattle.pages.specs.Shape.{Alternatives, Cells, Lines}
 
 -- a penalty's high byte comes first
@@ -18,10 +18,6 @@ line_bytes l = length l ∷ flat_map cell_bytes l
 
 abbrev pub page_bytes : Lines → List ℕ
 page_bytes p = length p ∷ flat_map line_bytes p
-
--- what is returned for a place too short: 10 Place
-abbrev pub place_number : ℕ
-place_number = 10
 
 -- the bytes stand at the place's start, and the rest of the place is left; a place too short is left whole
 abbrev pub Written : Result ℕ PlaceFault → List ℕ → List ℕ → List ℕ → Type 0

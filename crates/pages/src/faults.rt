@@ -2,6 +2,7 @@
 // inside the upper one, with the number of the cell or the line that it was met in.
 ghost use Rattle.std.specs.Prelude.{◌≡◌};
 ghost use Rattle.pages.specs.Faults.{count_returns, alternative_returns, cell_returns, line_returns, page_returns, line_cell, page_line, page_cell};
+ghost use Rattle.pages.specs.Faults.{number_alone, page_details};
 ghost use Rattle.pages.specs.declared.faults.CellFault.TheVariants as CellFaults;
 ghost use Rattle.pages.specs.declared.faults.LineFault.TheVariants as LineFaults;
 ghost use Rattle.pages.specs.declared.faults.PageFault.TheVariants as PageFaults;
@@ -49,8 +50,9 @@ pub enum PageFault {
     Excess(usize),
 }
 
-// What a refusal returns: its number, and the place of the byte judged (of a penalty its high byte, of a
-// missing byte the page's length). The numbers are those of docs/page-file.md; within the code a fault is its enum.
+// What a refusal returns: its number, and the place of the byte judged (of a penalty its high byte,
+// of a missing byte the page's length). The numbers are those of docs/refusals.md; within the code
+// a fault is its enum.
 #[derive(Clone, Copy, Debug, PartialEq, Eq)]
 pub struct Returned {
     pub number: u8,
@@ -62,6 +64,34 @@ impl Returned {
         ensures { result ≡ record { number = number; place = place } }
     {
         Returned { number, place }
+    }
+}
+
+/// A refusal in numbers: the one that is returned, and the values that it has beside it.
+/// docs/refusals.md has them all, and which of them have which values.
+#[derive(Clone, Copy, Debug, PartialEq, Eq)]
+pub struct Details {
+    /// The number that is returned.
+    pub number: u8,
+    /// The place of the byte judged, from 0.
+    pub place: Option<usize>,
+    /// The number of the line that it was met in, from 0.
+    pub line: Option<usize>,
+    /// The number of the cell that it was met in, from 0.
+    pub cell: Option<usize>,
+}
+
+impl Details {
+    /// The number, and no value beside it.
+    pub fn number_alone(number: u8) -> Details
+        ensures { result ≡ number_alone number }
+    {
+        Details {
+            number,
+            place: None,
+            line: None,
+            cell: None,
+        }
     }
 }
 
@@ -167,6 +197,19 @@ impl PageFault {
             PageFault::Count(_) => None,
             PageFault::Line(line) => line.fault.cell(),
             PageFault::Excess(_) => None,
+        }
+    }
+
+    /// All of these at once: the number, the place, and the line and the cell where there are any.
+    pub fn details(&self) -> Details
+        ensures { result ≡ page_details self.now }
+    {
+        let Returned { number, place } = self.returned();
+        Details {
+            place: Some(place),
+            line: self.line(),
+            cell: self.cell(),
+            ..Details::number_alone(number)
         }
     }
 }

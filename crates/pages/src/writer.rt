@@ -1,25 +1,11 @@
 // Writes a line as the bytes that it is read from.
 ghost use Rattle.std.specs.Prelude.{◌≡◌, ◌+◌, ◌≤◌, ◌++◌, length, take, drop};
 ghost use Rattle.pages.specs.Answers.{line_of};
-ghost use Rattle.pages.specs.Writing.{place_number, alternative_bytes, line_bytes, Written};
+ghost use Rattle.pages.specs.Writing.{alternative_bytes, line_bytes, Written};
 ghost use Rattle.pages.specs.Laws.{ReadsBack};
 
 use crate::lines::{Alternative, Line};
-
-// The place for a line is shorter than the line.
-#[derive(Clone, Copy, Debug, PartialEq, Eq)]
-pub struct PlaceFault;
-
-impl PlaceFault {
-    // The number that is returned for a place too short, by docs/page-file.md.
-    const NUMBER: u8 = 10;
-
-    pub fn number(&self) -> u8
-        ensures { result ≡ place_number }
-    {
-        Self::NUMBER
-    }
-}
+use placefault::PlaceFault;
 
 // How many bytes a line takes.
 fn line_size(line: &Line) -> usize

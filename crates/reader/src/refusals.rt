@@ -1,9 +1,10 @@
 // Why a call of a reader is refused.
 ghost use Rattle.std.specs.Prelude.{◌≡◌};
-ghost use Rattle.reader.specs.Refusals.{number_of, explained};
+ghost use Rattle.reader.specs.Refusals.{details_of, number_of, explained};
 ghost use Rattle.reader.specs.declared.refusals.Refusal.TheVariants as Refusals;
 
-use pages::{PageFault, PlaceFault};
+use pages::{Details, PageFault};
+use placefault::PlaceFault;
 
 // The page is bad, with its whole fault; the score does not take the line; no line is loaded; the grant is 0 or too
 // large; the place is too short; the page has no line of the number.
@@ -18,18 +19,26 @@ pub enum Refusal {
 }
 
 impl Refusal {
-    // The number that is returned, by docs/reader.md. A `match`, since that of a bad page is that of its fault.
+    /// The number that is returned, and the values beside it: of a bad page those of its fault, of
+    /// all else none. docs/refusals.md has the numbers.
+    pub fn details(&self) -> Details
+        ensures { result ≡ details_of self.now }
+    {
+        match self {
+            Refusal::Page(fault) => fault.details(),
+            Refusal::Score => Details::number_alone(7),
+            Refusal::NoLine => Details::number_alone(8),
+            Refusal::Grant => Details::number_alone(9),
+            Refusal::Place => Details::number_alone(PlaceFault.number()),
+            Refusal::LineNumber => Details::number_alone(13),
+        }
+    }
+
+    /// The number that is returned.
     pub fn number(&self) -> u8
         ensures { result ≡ number_of self.now }
     {
-        match self {
-            Refusal::Page(fault) => fault.number(),
-            Refusal::Score => 7,
-            Refusal::NoLine => 8,
-            Refusal::Grant => 9,
-            Refusal::Place => PlaceFault.number(),
-            Refusal::LineNumber => 13,
-        }
+        self.details().number
     }
 
     // Why, in a few words. Of a bad page they say no more: what is wrong with it takes the page to tell.
