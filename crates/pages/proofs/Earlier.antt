@@ -22,8 +22,8 @@ use Rattle.pages.specs.Writing.{alternative_bytes, cell_bytes, line_bytes, page_
 use Rattle.pages.specs.Laws.{Stands, Begins, alternative_judged, cell_judged, line_judged, page_judged, HalfPenaltyTooLow, FirstWrong}
 use Rattle.pages.proofs.Shape.{InRange, WellFormedCell, WellFormedLine, WellFormedPage, page_parts, page_from}
 use Rattle.pages.proofs.Steps.{counts}
-use Rattle.pages.proofs.Causes.{page_true}
-use Rattle.pages.proofs.Behind.{page_met}
+use Rattle.pages.proofs.Causes.{Symbolled}
+use Rattle.pages.proofs.Behind.{page_met, met_alone}
 use Rattle.pages.proofs.Round.{Octets, Fair, fair_cell, reads, alternative_stands, fair_one, got_cell, line_read, last_push, page_back}
 use Rattle.pages.proofs.Local.{shorter, still_read, alternative_local, count_local, cell_local, line_local, jC, jL, bad_before, page_refused}
 
@@ -128,12 +128,6 @@ module _ {A B E F : Type 0} (R : List ℕ → Result A E) (up : E → F) (S : A 
   )
 
 -- an alternative refused: its symbol was not judged good, or only its penalty was not, or of that only half is there
-record Symbolled (b : List ℕ) (at : ℕ) (before : Alternatives) : Type 0 where
-  room : at < length b
-  low : 33 ≤ symbol_at b at
-  high : symbol_at b at ≤ 126
-  fresh : seen (symbol_at b at) before ≡ false
-
 abbrev place_of : AlternativeFault → ℕ
 place_of g = (alternative_returns g).place
 
@@ -594,8 +588,8 @@ pub first_wrong : (bytes : List ℕ) (f : PageFault) → Octets bytes → read_p
 first_wrong bytes f all e =
     let told = page_refused bytes f e in
     record {
-      true_of = page_true bytes f e;
       met = page_met bytes f all e;
+      alone = λ other h. met_alone bytes f other e h;
       missing =
           λ one.
           let end : (page_returns f).place ≡ length bytes = ⊎_elim (λ fits. absurd (fits.1 one)) (λ out. omega (arith, out.0, page_short f one)) told.within in

@@ -1,5 +1,5 @@
 -- Reading and writing undo each other. Assumes nothing.
-use Rattle.std.proofs.Common.{◌≡◌, ℕ, zero, suc, ◌+◌, ◌*◌, ◌/◌, ◌%◌, ◌<◌, ◌≤◌, true, false, ltb, List, [], ◌∷◌, ◌++◌, length, get_or, take, drop, Ok, Err, Result, sym, refl, ap, ◌∙◌, subst, append_assoc, append-nil, add-zero, arith, length-append, length-drop}
+use Rattle.std.proofs.Common.{◌≡◌, ℕ, zero, suc, ◌+◌, ◌*◌, ◌/◌, ◌%◌, ◌<◌, ◌≤◌, true, false, ltb, List, [], ◌∷◌, ◌++◌, length, get_or, take, drop, Ok, Err, Result, sym, refl, ap, ◌∙◌, subst, append_assoc, append-nil, add-zero, zero-add, arith, length-append, length-drop}
 use Rattle.std.specs.List.{flat_map, AllByRecursion}
 use Rattle.std.proofs.lemmas.List.{take_all, take-append-le, drop_all, drop_more, drop-drop, drop_at, get_or-drop}
 use Rattle.std.proofs.lemmas.Bool.{eqb-false, ne_eqb, or_parts, or_from, le-ltb, cond-false}
@@ -9,11 +9,11 @@ use Rattle.pages.specs.declared.faults.CellFault.TheVariants as cell
 use Rattle.pages.specs.declared.faults.LineFault.TheVariants as line
 use Rattle.pages.specs.declared.faults.PageFault.{PageFault}
 use Rattle.pages.specs.declared.faults.PageFault.TheVariants as page
-use Rattle.pages.specs.Shape.{Alternatives, Cells, Lines, seen, well_formed_page}
+use Rattle.pages.specs.Shape.{Alternatives, Cells, Lines, seen, well_formed_alternatives, well_formed_page}
 use Rattle.pages.specs.Reading.{last_penalty, symbol_at, penalty_at, onward, read_alternative, read_count, read_alternatives, read_cell, read_cells, read_line, read_lines, page_end, read_page, before_lines}
 use Rattle.pages.specs.Writing.{alternative_bytes, cell_bytes, line_bytes, page_bytes}
 use Rattle.pages.specs.Laws.{Stands, Accepted}
-use Rattle.pages.proofs.Shape.{Apart, Rises, InRange, WellFormedCell, WellFormedLine, page_parts, page_from}
+use Rattle.pages.proofs.Shape.{Apart, Rises, InRange, WellFormedCell, WellFormedLine, alternatives_parts, alternatives_from, page_parts, page_from}
 use Rattle.pages.proofs.Steps.{Counts, counts}
 
 abbrev pub Octets : List ℕ → Type 0
@@ -53,7 +53,7 @@ reads_alternative : (bytes : List ℕ) (at : ℕ) (before : Alternatives) (a : A
 reads_alternative bytes at before a h = grind (arith, nat_tests)
 
 -- a count likewise
-counts_back : (most : ℕ) (bytes : List ℕ) (at n : ℕ) → Counts most bytes at n → read_count most bytes at ≡ Ok n
+pub counts_back : (most : ℕ) (bytes : List ℕ) (at n : ℕ) → Counts most bytes at n → read_count most bytes at ≡ Ok n
 counts_back most bytes at n h = grind (arith, nat_tests)
 
 -- bytes one after another
@@ -71,19 +71,19 @@ stands_join {bytes} {a} {b} {at} {mid} {next} h g =
       fits = g.fits;
     }
 
-stands_split : {bytes : List ℕ} (a : List ℕ) {b : List ℕ} {at next : ℕ} → Stands bytes at (a ++ b) next → Stands bytes at a (at + length a) × Stands bytes (at + length a) b next
+pub stands_split : {bytes : List ℕ} (a : List ℕ) {b : List ℕ} {at next : ℕ} → Stands bytes at (a ++ b) next → Stands bytes at a (at + length a) × Stands bytes (at + length a) b next
 stands_split {bytes} a {b} {at} {next} h =
     let flat = h.here ∙ append_assoc a b (drop next bytes) in
     let rest = sym (drop-drop (length a) at bytes) ∙ ap (drop (length a)) flat ∙ drop_at a (b ++ drop next bytes) (length a) refl in
     let long = length-append a b in
     (record { here = flat ∙ ap (λ l. a ++ l) (sym rest); size = refl; fits = omega (arith, h.size, h.fits) }, record { here = rest; size = omega (arith, h.size); fits = h.fits })
 
-record Head (bytes : List ℕ) (at v : ℕ) (rest : List ℕ) (next : ℕ) : Type 0 where
-  room : at < length bytes
-  is : get_or bytes at 0 ≡ v
-  behind : Stands bytes (at + 1) rest next
+pub record Head (bytes : List ℕ) (at v : ℕ) (rest : List ℕ) (next : ℕ) : Type 0 where
+  pub room : at < length bytes
+  pub is : get_or bytes at 0 ≡ v
+  pub behind : Stands bytes (at + 1) rest next
 
-stands_head : {bytes rest : List ℕ} {at v next : ℕ} → Stands bytes at (v ∷ rest) next → Head bytes at v rest next
+pub stands_head : {bytes rest : List ℕ} {at v next : ℕ} → Stands bytes at (v ∷ rest) next → Head bytes at v rest next
 stands_head {bytes} {rest} {at} {v} {next} h =
     let parts = stands_split (v ∷ []) {b = rest} h in
     record {
@@ -171,17 +171,19 @@ alternative_read bytes at before a rest next h range fresh order =
       stands_at third three.behind,
     )
 
-alternatives_back : (bytes : List ℕ) (at : ℕ) (before more : Alternatives) (next : ℕ) → Fair before more → Stands bytes at (flat_map alternative_bytes more) next
-    → read_alternatives bytes (length more) at before ≡ Ok (before ++ more, next)
+pub alternatives_back : (bytes : List ℕ) (at due : ℕ) (before more : Alternatives) (next : ℕ) → Fair before more → Stands bytes at (flat_map alternative_bytes more) next
+    → read_alternatives bytes (length more + due) at before ≡ read_alternatives bytes due next (before ++ more)
 unfolding read_alternatives
-alternatives_back bytes at before [] next f h =
+alternatives_back bytes at due before [] next f h =
     let place : at ≡ next = omega (arith, h.size) in
-    λ i. Ok (sym (append-nil before) i, place i)
-alternatives_back bytes at before (a ∷ more) next f h =
+    λ i. read_alternatives bytes (zero-add due i) (place i) (sym (append-nil before) i)
+alternatives_back bytes at due before (a ∷ more) next f h =
     let r = alternative_read bytes at before a (flat_map alternative_bytes more) next h f.0 f.1 f.2 in
-    ap (λ x. onward x cell.Alternative (λ b. read_alternatives bytes (length more) (at + 3) (before ++ b ∷ []))) (reads_alternative bytes at before a r.0)
-    ∙ alternatives_back bytes (at + 3) (before ++ a ∷ []) more next f.3 r.1
-    ∙ ap (λ l. Ok (l, next)) (append_assoc before (a ∷ []) more)
+    let one : suc (length more) + due ≡ suc (length more + due) = omega arith in
+    ap (λ n. read_alternatives bytes n at before) one
+    ∙ ap (λ x. onward x cell.Alternative (λ b. read_alternatives bytes (length more + due) (at + 3) (before ++ b ∷ []))) (reads_alternative bytes at before a r.0)
+    ∙ alternatives_back bytes (at + 3) due (before ++ a ∷ []) more next f.3 r.1
+    ∙ ap (read_alternatives bytes due next) (append_assoc before (a ∷ []) more)
 
 -- fair is: in range, apart, and never falling
 pub map_all : {X : Type 0} {P Q : X → Type 0} → ((x : X) → P x → Q x) → (xs : List X) → AllByRecursion P xs → AllByRecursion Q xs
@@ -237,6 +239,12 @@ unseen_none : (c : Alternatives) → AllByRecursion (λ a. seen a.symbol [] ≡ 
 unseen_none [] = tt
 unseen_none (a ∷ c) = (refl, unseen_none c)
 
+pub fair_whole : (c : Alternatives) → Fair [] c → well_formed_alternatives c ≡ true
+fair_whole c fair = alternatives_from c (record { ranges = fair_ranges [] c fair; apart = (fair_apart [] c fair).1; rises = fair_rises [] c fair })
+
+pub whole_fair : (c : Alternatives) → well_formed_alternatives c ≡ true → Fair [] c
+whole_fair c e = let h = alternatives_parts c e in fair_from [] c h.ranges (unseen_none c) h.apart h.rises
+
 -- a cell whose alternatives are fair is well-formed
 pub fair_cell : (c : Alternatives) → 1 ≤ length c → length c ≤ 8 → Fair [] c → WellFormedCell c
 fair_cell c some few fair =
@@ -258,11 +266,12 @@ got_cell bytes at c next all e =
     )
 
 cell_back : (bytes : List ℕ) (at : ℕ) (c : Alternatives) (next : ℕ) → WellFormedCell c → Stands bytes at (cell_bytes c) next → read_cell bytes at ≡ Ok (c, next)
-unfolding read_cell
+unfolding read_cell read_alternatives
 cell_back bytes at c next f h =
     let one = stands_head h in
     ap (λ x. onward x cell.Count (λ due. read_alternatives bytes due (at + 1) [])) (counts_back 8 bytes at (length c) (record { room = one.room; is = one.is; low = f.some; high = f.few }))
-    ∙ alternatives_back bytes (at + 1) [] c next (cell_fair c f) one.behind
+    ∙ ap (λ n. read_alternatives bytes n (at + 1) []) (sym (add-zero (length c)))
+    ∙ alternatives_back bytes (at + 1) 0 [] c next (cell_fair c f) one.behind
 
 -- cells
 record GotCells (bytes : List ℕ) (at : ℕ) (before : Cells) (due : ℕ) (l : Cells) (next : ℕ) : Type 0 where
@@ -298,18 +307,20 @@ got_cells bytes (suc due) at before l next all h e =
       stands = stands_join {a = cell_bytes c} one.1 g.stands;
     }
 
-cells_back : (bytes : List ℕ) (at : ℕ) (before more : Cells) (next : ℕ) → AllByRecursion WellFormedCell more → Stands bytes at (flat_map cell_bytes more) next
-    → read_cells bytes (length more) at before ≡ Ok (before ++ more, next)
+pub cells_back : (bytes : List ℕ) (at due : ℕ) (before more : Cells) (next : ℕ) → AllByRecursion WellFormedCell more → Stands bytes at (flat_map cell_bytes more) next
+    → read_cells bytes (length more + due) at before ≡ read_cells bytes due next (before ++ more)
 unfolding read_cells
-cells_back bytes at before [] next f h =
+cells_back bytes at due before [] next f h =
     let place : at ≡ next = omega (arith, h.size) in
-    λ i. Ok (sym (append-nil before) i, place i)
-cells_back bytes at before (c ∷ more) next f h =
+    λ i. read_cells bytes (zero-add due i) (place i) (sym (append-nil before) i)
+cells_back bytes at due before (c ∷ more) next f h =
     let parts = stands_split (cell_bytes c) {b = flat_map cell_bytes more} h in
     let mid = at + length (cell_bytes c) in
-    ap (λ x. onward x (λ e. line.Cell (record { number = length before; fault = e })) (λ d. read_cells bytes (length more) d.1 (before ++ d.0 ∷ []))) (cell_back bytes at c mid f.0 parts.0)
-    ∙ cells_back bytes mid (before ++ c ∷ []) more next f.1 parts.1
-    ∙ ap (λ l. Ok (l, next)) (append_assoc before (c ∷ []) more)
+    let one : suc (length more) + due ≡ suc (length more + due) = omega arith in
+    ap (λ n. read_cells bytes n at before) one
+    ∙ ap (λ x. onward x (λ e. line.Cell (record { number = length before; fault = e })) (λ d. read_cells bytes (length more + due) d.1 (before ++ d.0 ∷ []))) (cell_back bytes at c mid f.0 parts.0)
+    ∙ cells_back bytes mid due (before ++ c ∷ []) more next f.1 parts.1
+    ∙ ap (read_cells bytes due next) (append_assoc before (c ∷ []) more)
 
 -- a line that is read is well-formed, and its bytes stand there
 pub line_read : (bytes : List ℕ) (at : ℕ) (l : Cells) (next : ℕ) → Octets bytes → read_line bytes at ≡ Ok (l, next)
@@ -325,12 +336,13 @@ line_read bytes at l next all e =
     )
 
 -- and a well-formed line is read where its bytes stand
-line_back : (bytes : List ℕ) (at : ℕ) (l : Cells) (next : ℕ) → WellFormedLine l → Stands bytes at (line_bytes l) next → read_line bytes at ≡ Ok (l, next)
-unfolding read_line
+pub line_back : (bytes : List ℕ) (at : ℕ) (l : Cells) (next : ℕ) → WellFormedLine l → Stands bytes at (line_bytes l) next → read_line bytes at ≡ Ok (l, next)
+unfolding read_line read_cells
 line_back bytes at l next f h =
     let one = stands_head h in
     ap (λ x. onward x line.Count (λ due. read_cells bytes due (at + 1) [])) (counts_back 24 bytes at (length l) (record { room = one.room; is = one.is; low = f.some; high = f.few }))
-    ∙ cells_back bytes (at + 1) [] l next f.cells one.behind
+    ∙ ap (λ n. read_cells bytes n (at + 1) []) (sym (add-zero (length l)))
+    ∙ cells_back bytes (at + 1) 0 [] l next f.cells one.behind
 
 record GotLines (bytes : List ℕ) (at due : ℕ) (lines : Lines) : Type 0 where
   long : length lines ≡ due

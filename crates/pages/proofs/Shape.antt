@@ -4,7 +4,7 @@ use Rattle.std.specs.List.{AllByRecursion}
 use Rattle.std.proofs.lemmas.Bool.{and_parts, and_from, or_parts, or_from, leb-true, le-leb, eqb-false, ne_eqb, not-true, not_from_false}
 use Rattle.std.proofs.lemmas.Bool.Decides.{nat_tests}
 use Rattle.pages.specs.declared.lines.Alternative.{Alternative}
-use Rattle.pages.specs.Shape.{Alternatives, Cells, Lines, seen, in_range, once, rising, every, one_to, well_formed_cell, well_formed_line, well_formed_page}
+use Rattle.pages.specs.Shape.{Alternatives, Cells, Lines, seen, in_range, once, rising, every, one_to, well_formed_alternatives, well_formed_cell, well_formed_line, well_formed_page}
 
 -- a test that holds of each, and what it tells
 pub all_every : {X : Type 0} (test : X → Bool) (P : X → Type 0) → ((x : X) → test x ≡ true → P x) → (xs : List X) → every test xs ≡ true → AllByRecursion P xs
@@ -29,6 +29,11 @@ pub record InRange (a : Alternative) : Type 0 where
   pub low : 33 ≤ a.symbol
   pub high : a.symbol ≤ 126
   pub small : a.penalty < 65536
+
+pub record WellFormedAlternatives (c : Alternatives) : Type 0 where
+  pub ranges : AllByRecursion InRange c
+  pub apart : Apart c
+  pub rises : Rises 0 c
 
 pub record WellFormedCell (c : Alternatives) : Type 0 where
   pub some : 1 ≤ length c
@@ -83,20 +88,30 @@ one_to_parts most n e = (grind (arith, nat_tests), grind (arith, nat_tests))
 one_to_from : (most n : ℕ) → 1 ≤ n → n ≤ most → one_to most n ≡ true
 one_to_from most n some few = grind (arith, nat_tests)
 
+pub alternatives_parts : (c : Alternatives) → well_formed_alternatives c ≡ true → WellFormedAlternatives c
+unfolding well_formed_alternatives
+alternatives_parts c e =
+    let p = and_parts _ _ e in
+    let q = and_parts _ _ p.0 in
+    record { ranges = all_every in_range InRange range_parts c q.0; apart = once_apart c q.1; rises = rising_rises 0 c p.1 }
+
+pub alternatives_from : (c : Alternatives) → WellFormedAlternatives c → well_formed_alternatives c ≡ true
+unfolding well_formed_alternatives
+alternatives_from c h =
+    and_from _ _ (and_from _ _ (every_all in_range InRange range_from c h.ranges) (apart_once c h.apart)) (rises_rising 0 c h.rises)
+
 pub cell_parts : (c : Alternatives) → well_formed_cell c ≡ true → WellFormedCell c
 unfolding well_formed_cell
 cell_parts c e =
     let p = and_parts _ _ e in
-    let q = and_parts _ _ p.0 in
-    let r = and_parts _ _ q.0 in
-    let n = one_to_parts 8 (length c) r.0 in
-    record { some = n.0; few = n.1; ranges = all_every in_range InRange range_parts c r.1; apart = once_apart c q.1; rises = rising_rises 0 c p.1 }
+    let n = one_to_parts 8 (length c) p.0 in
+    let whole = alternatives_parts c p.1 in
+    record { some = n.0; few = n.1; ranges = whole.ranges; apart = whole.apart; rises = whole.rises }
 
 pub cell_from : (c : Alternatives) → WellFormedCell c → well_formed_cell c ≡ true
 unfolding well_formed_cell
 cell_from c h =
-    and_from _ _ (and_from _ _ (and_from _ _ (one_to_from 8 (length c) h.some h.few) (every_all in_range InRange range_from c h.ranges)) (apart_once c h.apart))
-    (rises_rising 0 c h.rises)
+    and_from _ _ (one_to_from 8 (length c) h.some h.few) (alternatives_from c (record { ranges = h.ranges; apart = h.apart; rises = h.rises }))
 
 pub line_parts : (l : Cells) → well_formed_line l ≡ true → WellFormedLine l
 unfolding well_formed_line

@@ -1,21 +1,22 @@
 -- What reading and writing come to, in the words of the page file. Assumes nothing.
-use Rattle.std.specs.Prelude.{◌≡◌, ℕ, ◌+◌, ◌-◌, ◌*◌, ◌<◌, ◌≤◌, true, ◌⊎◌, List, [], ◌∷◌, ◌++◌, length, take, drop, Ok, Err, Result, ◌≢◌, slice_index}
+use Rattle.std.specs.Prelude.{◌≡◌, ℕ, ◌+◌, ◌-◌, ◌*◌, ◌<◌, ◌≤◌, Bool, true, ◌⊎◌, List, [], ◌∷◌, ◌++◌, length, take, drop, Ok, Err, Result, ◌≢◌, Any, slice_index}
 use Rattle.std.specs.List.{flat_map}
+use Rattle.pages.specs.declared.lines.Alternative.{Alternative}
 use Rattle.pages.specs.declared.faults.AlternativeFault.{AlternativeFault}
 use Rattle.pages.specs.declared.faults.AlternativeFault.TheVariants as alternative
 use Rattle.pages.specs.declared.faults.CountFault.{CountFault}
+use Rattle.pages.specs.declared.faults.CountFault.TheVariants as count
 use Rattle.pages.specs.declared.faults.CellFault.{CellFault}
 use Rattle.pages.specs.declared.faults.CellFault.TheVariants as cell
 use Rattle.pages.specs.declared.faults.LineFault.{LineFault}
 use Rattle.pages.specs.declared.faults.LineFault.TheVariants as line
 use Rattle.pages.specs.declared.faults.PageFault.{PageFault}
 use Rattle.pages.specs.declared.faults.PageFault.TheVariants as page
-use Rattle.pages.specs.declared.faults.Returned.{Returned}
 use Rattle.placefault.specs.declared.PlaceFault.{PlaceFault}
-use Rattle.pages.specs.Shape.{Cells, Lines, every, well_formed_cell, well_formed_line, well_formed_page}
+use Rattle.pages.specs.Shape.{Alternatives, Cells, Lines, every, well_formed_alternatives, well_formed_cell, well_formed_line, well_formed_page}
 use Rattle.pages.specs.Faults.{count_returns, page_returns}
-use Rattle.pages.specs.Reading.{read_count, read_cell, read_line, read_page}
-use Rattle.pages.specs.Writing.{cell_bytes, line_bytes, page_bytes}
+use Rattle.pages.specs.Reading.{read_page}
+use Rattle.pages.specs.Writing.{alternative_bytes, cell_bytes, line_bytes, page_bytes}
 
 -- some bytes stand at a place, and `next` is the place behind them
 pub record Stands (bytes : List ℕ) (at : ℕ) (part : List ℕ) (next : ℕ) : Type 0 where
@@ -89,61 +90,82 @@ pub record MissingByte (bytes : List ℕ) (f : PageFault) : Type 0 where
 abbrev pub penalty_of : List ℕ → ℕ → ℕ
 penalty_of bytes at = slice_index bytes at * 256 + slice_index bytes (at + 1)
 
--- the most that a count may be, where one is refused: of lines, of cells, of alternatives
-abbrev pub line_most : LineFault → ℕ
-line_most (line.Count f) = 24
-line_most (line.Cell f) = 8
+-- a count is due at a place, and refused: the page ends there, or the byte there is 0 or above the most
+abbrev pub CountRefused : ℕ → List ℕ → ℕ → CountFault → Type 0
+CountRefused most bytes at (count.Short place) = (place ≡ at) × (at ≡ length bytes)
+CountRefused most bytes at (count.Count place) =
+    (place ≡ at) × (at < length bytes) × ((slice_index bytes at ≡ 0) ⊎ (most < slice_index bytes at))
 
-abbrev pub page_most : PageFault → ℕ
-page_most (page.Count f) = 40
-page_most (page.Line f) = line_most f.fault
-page_most (page.Excess at) = 40
+-- one of the alternatives has the symbol
+abbrev pub HasSymbol : Alternatives → ℕ → Type 0
+HasSymbol before symbol = Any (λ a. a.symbol ≡ symbol) before
 
--- what a refusal says of the byte at its place is so: a count is 0 or above the most; a symbol is out of its range; the
--- same symbol stands some alternatives before, of three bytes each; a penalty is below the one before
-pub record SaysTrue (bytes : List ℕ) (most : ℕ) (r : Returned) : Type 0 where
-  pub count : r.number ≡ 2 → (slice_index bytes r.place ≡ 0) ⊎ (most < slice_index bytes r.place)
-  pub symbol : r.number ≡ 3 → (slice_index bytes r.place < 33) ⊎ (126 < slice_index bytes r.place)
-  pub twice : r.number ≡ 4 → (k : ℕ) × (0 < k) × (3 * k ≤ r.place) × (slice_index bytes (r.place - 3 * k) ≡ slice_index bytes r.place)
-  pub order : r.number ≡ 5 → (3 ≤ r.place) × (penalty_of bytes r.place < penalty_of bytes (r.place - 3))
+-- at a place stands a symbol in its range
+abbrev pub SymbolThere : List ℕ → ℕ → Type 0
+SymbolThere bytes at =
+    (at < length bytes) × (33 ≤ slice_index bytes at) × (slice_index bytes at ≤ 126)
 
--- from a place on stand so many whole cells, and the one behind them is refused
-pub record CellRefused (bytes : List ℕ) (at number : ℕ) (f : CellFault) : Type 0 where
-  pub cells : Cells
-  pub place : ℕ
-  pub long : length cells ≡ number
-  pub well : every well_formed_cell cells ≡ true
-  pub stand : Stands bytes at (flat_map cell_bytes cells) place
-  pub refused : read_cell bytes place ≡ Err f
+-- and none of the alternatives before it in its cell has it
+abbrev pub NewSymbol : List ℕ → ℕ → Alternatives → Type 0
+NewSymbol bytes at before = SymbolThere bytes at × ¬ HasSymbol before (slice_index bytes at)
 
--- of the line at a place the count of cells is refused, or the cell named
-abbrev pub CellMet : List ℕ → ℕ → LineFault → Type 0
-CellMet bytes at (line.Count f) = read_count 24 bytes at ≡ Err f
-CellMet bytes at (line.Cell c) = CellRefused bytes (at + 1) c.number c.fault
+-- a penalty is below that of the last of the alternatives
+abbrev pub BelowLast : Alternatives → ℕ → Type 0
+BelowLast before penalty =
+    (others : Alternatives) × (last : Alternative)
+    × (before ≡ others ++ last ∷ []) × (penalty < last.penalty)
 
--- from a place on stand so many whole lines, and the one behind them is refused, in the cell named
-pub record LineRefused (bytes : List ℕ) (at number : ℕ) (f : LineFault) : Type 0 where
-  pub lines : Lines
-  pub place : ℕ
-  pub long : length lines ≡ number
-  pub well : every well_formed_line lines ≡ true
-  pub stand : Stands bytes at (flat_map line_bytes lines) place
-  pub refused : read_line bytes place ≡ Err f
-  pub cell : CellMet bytes place f
+-- an alternative is due at a place, behind those before it in its cell, and refused: the page ends at its symbol, or
+-- behind a new symbol within its penalty; its symbol is out of range; it is in range, and one before has it; or it is
+-- new, and the penalty is below that of the one just before
+abbrev pub AlternativeRefused : List ℕ → ℕ → Alternatives → AlternativeFault → Type 0
+AlternativeRefused bytes at before (alternative.Short place) =
+    (place ≡ length bytes) × ((place ≡ at) ⊎ (NewSymbol bytes at before × (place ≤ at + 2)))
+AlternativeRefused bytes at before (alternative.Symbol place) =
+    (place ≡ at) × (at < length bytes) × ((slice_index bytes at < 33) ⊎ (126 < slice_index bytes at))
+AlternativeRefused bytes at before (alternative.Twice place) =
+    (place ≡ at) × SymbolThere bytes at × HasSymbol before (slice_index bytes at)
+AlternativeRefused bytes at before (alternative.Order place) =
+    (place ≡ at + 1) × (at + 2 < length bytes) × NewSymbol bytes at before
+    × BelowLast before (penalty_of bytes place)
 
--- all the bytes before a place are a well-formed page
-abbrev pub WholePage : List ℕ → ℕ → Type 0
-WholePage bytes at = (lines : Lines) × (well_formed_page lines ≡ true) × Stands bytes 0 (page_bytes lines) at
+-- at a place stands a count, not above the most; behind it stand whole parts, fewer than it counts, and the next part
+-- is due at `next`
+pub record Before {X : Type 0} (most : ℕ) (well_formed : List X → Bool) (bytes_of : X → List ℕ) (bytes : List ℕ) (at : ℕ) (parts : List X) (next : ℕ) : Type 0 where
+  pub count : slice_index bytes at ≤ most
+  pub fewer : length parts < slice_index bytes at
+  pub well : well_formed parts ≡ true
+  pub stand : Stands bytes (at + 1) (flat_map bytes_of parts) next
+
+-- of the cell at a place the count of alternatives is refused, or an alternative behind those before it in this cell
+abbrev pub CellMet : List ℕ → ℕ → CellFault → Type 0
+CellMet bytes at (cell.Count f) = CountRefused 8 bytes at f
+CellMet bytes at (cell.Alternative f) =
+    (before : Alternatives) × (next : ℕ)
+    × Before 8 well_formed_alternatives alternative_bytes bytes at before next
+    × AlternativeRefused bytes next before f
+
+-- of the line at a place the count of cells is refused, or the cell named, behind whole ones
+abbrev pub LineMet : List ℕ → ℕ → LineFault → Type 0
+LineMet bytes at (line.Count f) = CountRefused 24 bytes at f
+LineMet bytes at (line.Cell c) =
+    (cells : Cells) × (next : ℕ) × (length cells ≡ c.number)
+    × Before 24 (every well_formed_cell) cell_bytes bytes at cells next
+    × CellMet bytes next c.fault
 
 -- the count of lines is refused; or the line named, behind whole ones; or what stands behind a whole page
 abbrev pub Met : List ℕ → PageFault → Type 0
-Met bytes (page.Count f) = read_count 40 bytes 0 ≡ Err f
-Met bytes (page.Line l) = LineRefused bytes 1 l.number l.fault
-Met bytes (page.Excess at) = WholePage bytes at
+Met bytes (page.Count f) = CountRefused 40 bytes 0 f
+Met bytes (page.Line l) =
+    (lines : Lines) × (next : ℕ) × (length lines ≡ l.number)
+    × Before 40 (every well_formed_line) line_bytes bytes 0 lines next
+    × LineMet bytes next l.fault
+Met bytes (page.Excess at) =
+    (lines : Lines) × (well_formed_page lines ≡ true) × Stands bytes 0 (page_bytes lines) at × (at < length bytes)
 
--- a refusal names the first thing wrong
+-- a refusal names the first thing wrong: what it says is so, and is so of no other fault
 pub record FirstWrong (bytes : List ℕ) (f : PageFault) : Type 0 where
-  pub true_of : SaysTrue bytes (page_most f) (page_returns f)
   pub met : Met bytes f
+  pub alone : (other : PageFault) → Met bytes other → other ≡ f
   pub missing : (page_returns f).number ≡ 1 → MissingByte bytes f
   pub wrong : ((page_returns f).number ≢ 1) → WrongByte bytes f

@@ -50,9 +50,12 @@ every f (x ∷ xs) = f x && every f xs
 abbrev pub one_to : ℕ → ℕ → Bool
 one_to most n = nat_le 1 n && nat_le n most
 
--- what may stand in a page file
+-- what may stand in a page file: the alternatives of one cell, the first of them, or none
+unfoldable pub well_formed_alternatives : Alternatives → Bool
+well_formed_alternatives c = every in_range c && once c && rising 0 c
+
 unfoldable pub well_formed_cell : Alternatives → Bool
-well_formed_cell c = one_to 8 (length c) && every in_range c && once c && rising 0 c
+well_formed_cell c = one_to 8 (length c) && well_formed_alternatives c
 
 unfoldable pub well_formed_line : Cells → Bool
 well_formed_line l = one_to 24 (length l) && every well_formed_cell l
