@@ -91,6 +91,19 @@ fn first_places(rt: HostRuntime) {
     }
 }
 
+// A symbol comes twice where its own cell has it already, and not where a penalty has an equal byte or another cell has it.
+#[test]
+fn twice_in_its_own_cell(rt: HostRuntime) {
+    let page = [1, 2, 1, 65, 66, 0, 1, 66, 0, 0];
+    assert!(rt; line_of_page(&page, 0).is_ok(), "a penalty of another cell has it");
+    let page = [1, 1, 2, 65, 66, 66, 66, 66, 66];
+    assert!(rt; line_of_page(&page, 0).is_ok(), "a penalty of the same cell has it");
+    let page = [1, 2, 1, 66, 0, 0, 1, 66, 0, 0];
+    assert!(rt; line_of_page(&page, 0).is_ok(), "another cell has it");
+    let page = [1, 2, 1, 65, 66, 0, 2, 66, 0, 0, 66, 0, 0];
+    refused(&page, 4, 10, Some(0), Some(1)).check(&rt, "the same cell has it");
+}
+
 // Of two faults the one that stands first is named, with its own line and cell.
 #[test]
 fn first_of_two(rt: HostRuntime) {

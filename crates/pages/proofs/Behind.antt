@@ -12,13 +12,13 @@ use Rattle.pages.specs.declared.faults.LineFault.{LineFault}
 use Rattle.pages.specs.declared.faults.LineFault.TheVariants as line
 use Rattle.pages.specs.declared.faults.PageFault.{PageFault}
 use Rattle.pages.specs.declared.faults.PageFault.TheVariants as page
-use Rattle.pages.specs.Shape.{Alternatives, Cells, Lines, every, well_formed_alternatives, well_formed_cell, well_formed_line}
+use Rattle.pages.specs.Shape.{Alternatives, Cells, Lines, well_formed_cell, well_formed_line}
 use Rattle.pages.specs.Reading.{onward, read_alternative, read_alternatives, read_count, read_cell, read_cells, read_line, read_lines, read_page, before_lines}
-use Rattle.pages.specs.Writing.{alternative_bytes, cell_bytes, line_bytes, page_bytes}
-use Rattle.pages.specs.Laws.{Stands, AlternativeRefused, Before, CellMet, LineMet, Met}
+use Rattle.pages.specs.Writing.{alternative_bytes, cell_bytes, line_bytes}
+use Rattle.pages.specs.Laws.{Stands, AlternativeRefused, PartsBefore, CellMet, LineMet, Met}
 use Rattle.pages.proofs.Shape.{WellFormedCell, WellFormedLine, all_every, every_all, cell_parts, cell_from, line_parts, line_from, page_parts, page_from}
 use Rattle.pages.proofs.Steps.{counts}
-use Rattle.pages.proofs.Causes.{count_refused, refused_count, alternative_refused, refused_alternative}
+use Rattle.pages.proofs.Causes.{count_refused, met_count, alternative_refused, met_alternative}
 use Rattle.pages.proofs.Local.{bad_before}
 use Rattle.pages.proofs.Round.{Octets, Fair, reads, fair_one, fair_whole, whole_fair, alternative_stands, alternatives_back, cells_back, counts_back, got_cell, line_read, line_back, stands_none, stands_one, stands_join, stands_split, stands_head}
 
@@ -112,8 +112,7 @@ cells_met bytes (suc due) at before f all le e = go (λ c next room more. cells_
 line_named : (bytes : List ℕ) (due at : ℕ) (f : LineFault) → read_count 24 bytes at ≡ Ok due → CellsMet bytes due (at + 1) 0 f → LineMet bytes at f
 line_named bytes due at (line.Count f) is h = absurd h
 line_named bytes due at (line.Cell c) is (next, w, fewer, bad) =
-    let n = counts 24 bytes at due is in
-    (
+    let n = counts 24 bytes at due is in (
       w.parts,
       next,
       omega (arith, w.long),
@@ -171,8 +170,7 @@ lines_met bytes (suc due) at number f all le e = go (λ next room more. lines_me
 page_named : (bytes : List ℕ) (due : ℕ) (f : PageFault) → read_count 40 bytes 0 ≡ Ok due → LinesMet bytes due 1 0 f → Met bytes f
 page_named bytes due (page.Count f) is h = absurd h
 page_named bytes due (page.Line l) is (next, w, fewer, bad) =
-    let n = counts 40 bytes 0 due is in
-    (
+    let n = counts 40 bytes 0 due is in (
       w.parts,
       next,
       omega (arith, w.long),
@@ -202,7 +200,7 @@ record Due (most : ℕ) (bytes : List ℕ) (at before : ℕ) : Type 0 where
   read : read_count most bytes at ≡ Ok (before + suc behind)
 
 due : {X : Type 0} {well_formed : List X → Bool} {bytes_of : X → List ℕ} (most : ℕ) (bytes : List ℕ) (at : ℕ) (parts : List X) (next : ℕ)
-    → Before most well_formed bytes_of bytes at parts next → Due most bytes at (length parts)
+    → PartsBefore most well_formed bytes_of bytes at parts next → Due most bytes at (length parts)
 due most bytes at parts next h =
     let count = get_or bytes at 0 in
     let behind = count - (length parts + 1) in
@@ -212,16 +210,16 @@ due most bytes at parts next h =
 
 met_cell : (bytes : List ℕ) (at : ℕ) (f : CellFault) → CellMet bytes at f → read_cell bytes at ≡ Err f
 unfolding read_cell read_alternatives
-met_cell bytes at (cell.Count f) h = ap (λ r. onward r cell.Count (λ n. read_alternatives bytes n (at + 1) [])) (refused_count 8 bytes at f h)
+met_cell bytes at (cell.Count f) h = ap (λ r. onward r cell.Count (λ n. read_alternatives bytes n (at + 1) [])) (met_count 8 bytes at f h)
 met_cell bytes at (cell.Alternative f) (before, next, h, bad) =
     let d = due 8 bytes at before next h in
     ap (λ r. onward r cell.Count (λ n. read_alternatives bytes n (at + 1) [])) d.read
     ∙ alternatives_back bytes (at + 1) (suc d.behind) [] before next (whole_fair before h.well) h.stand
-    ∙ ap (λ r. onward r cell.Alternative (λ a. read_alternatives bytes d.behind (next + 3) (before ++ a ∷ []))) (refused_alternative bytes next before f bad)
+    ∙ ap (λ r. onward r cell.Alternative (λ a. read_alternatives bytes d.behind (next + 3) (before ++ a ∷ []))) (met_alternative bytes next before f bad)
 
 met_line : (bytes : List ℕ) (at : ℕ) (f : LineFault) → LineMet bytes at f → read_line bytes at ≡ Err f
 unfolding read_line read_cells
-met_line bytes at (line.Count f) h = ap (λ r. onward r line.Count (λ n. read_cells bytes n (at + 1) [])) (refused_count 24 bytes at f h)
+met_line bytes at (line.Count f) h = ap (λ r. onward r line.Count (λ n. read_cells bytes n (at + 1) [])) (met_count 24 bytes at f h)
 met_line bytes at (line.Cell c) (cells, next, long, h, bad) =
     let d = due 24 bytes at cells next h in
     ap (λ r. onward r line.Count (λ n. read_cells bytes n (at + 1) [])) d.read
@@ -247,7 +245,7 @@ lines_fault bytes at more number last next (l ∷ lines) f well h long e =
 
 met_page : (bytes : List ℕ) (f : PageFault) → Met bytes f → read_page bytes ≡ Err f
 unfolding read_page read_lines
-met_page bytes (page.Count f) h = ap (λ r. onward r page.Count (λ n. read_lines bytes n 1 0)) (refused_count 40 bytes 0 f h)
+met_page bytes (page.Count f) h = ap (λ r. onward r page.Count (λ n. read_lines bytes n 1 0)) (met_count 40 bytes 0 f h)
 met_page bytes (page.Line l) (lines, next, long, h, bad) =
     let d = due 40 bytes 0 lines next h in
     ap (λ r. onward r page.Count (λ n. read_lines bytes n 1 0)) d.read

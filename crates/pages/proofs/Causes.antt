@@ -1,15 +1,14 @@
 -- What a count and an alternative are refused for, and that they are refused for it. Assumes nothing.
-use Rattle.std.proofs.Common.{◌≡◌, ℕ, zero, suc, ◌+◌, ◌*◌, ◌<◌, ◌≤◌, Bool, true, false, eqb, ◌⊎◌, List, [], ◌∷◌, ◌++◌, length, get_or, Err, sym, refl, ap, ◌∙◌, subst, inl, inr, ⊎_elim, arith}
+use Rattle.std.proofs.Common.{◌≡◌, ℕ, zero, suc, ◌+◌, ◌*◌, ◌<◌, ◌≤◌, Bool, true, false, ◌⊎◌, List, [], ◌∷◌, length, get_or, Err, refl, ap, ◌∙◌, subst, inl, inr, ⊎_elim, arith}
 use Rattle.std.proofs.lemmas.Bool.{eqb-true, eq-eqb, or_cases, or_left, or_right}
 use Rattle.std.proofs.lemmas.Bool.Decides.{nat_tests}
-use Rattle.pages.specs.declared.lines.Alternative.{Alternative}
 use Rattle.pages.specs.declared.faults.CountFault.{CountFault}
 use Rattle.pages.specs.declared.faults.CountFault.TheVariants as count
 use Rattle.pages.specs.declared.faults.AlternativeFault.{AlternativeFault}
 use Rattle.pages.specs.declared.faults.AlternativeFault.TheVariants as alternative
 use Rattle.pages.specs.Shape.{Alternatives, seen}
 use Rattle.pages.specs.Reading.{last_penalty, symbol_at, penalty_at, read_alternative, read_count}
-use Rattle.pages.specs.Laws.{CountRefused, HasSymbol, NewSymbol, BelowLast, AlternativeRefused, penalty_of}
+use Rattle.pages.specs.Laws.{CountRefused, HasSymbol, NewSymbolAt, BelowLast, AlternativeRefused, penalty_of}
 use Rattle.pages.proofs.Round.{last_push}
 
 -- a count
@@ -24,9 +23,9 @@ count_refused most bytes at g le e =
     (λ p. subst (CountRefused most bytes at) p.0 (refl, p.1, p.2))
     (count_causes most bytes at g e)
 
-pub refused_count : (most : ℕ) (bytes : List ℕ) (at : ℕ) (g : CountFault) → CountRefused most bytes at g → read_count most bytes at ≡ Err g
-refused_count most bytes at (count.Short place) h = grind (arith, nat_tests, h.0, h.1)
-refused_count most bytes at (count.Count place) h = grind (arith, nat_tests, h.0, h.1, h.2)
+pub met_count : (most : ℕ) (bytes : List ℕ) (at : ℕ) (g : CountFault) → CountRefused most bytes at g → read_count most bytes at ≡ Err g
+met_count most bytes at (count.Short place) h = grind (arith, nat_tests, h.0, h.1)
+met_count most bytes at (count.Count place) h = grind (arith, nat_tests, h.0, h.1, h.2)
 
 -- a symbol that is seen is one of the alternatives'
 seen_has : (s : ℕ) (before : Alternatives) → seen s before ≡ true → HasSymbol before s
@@ -51,14 +50,14 @@ new_unseen s before h = go (seen s before) refl where
   go false is = is
 
 -- the last penalty is that of a last alternative
-below_last : (before : Alternatives) (penalty : ℕ) → penalty < last_penalty before → BelowLast before penalty
+below_last : (before : Alternatives) (penalty : ℕ) → penalty < last_penalty before → BelowLast penalty before
 below_last [] penalty lt = absurd (omega arith)
 below_last (a ∷ []) penalty lt = ([], a, refl, lt)
 below_last (a ∷ b ∷ more) penalty lt =
     let h = below_last (b ∷ more) penalty lt in
     (a ∷ h.0, h.1, ap (λ l. a ∷ l) h.2, h.3)
 
-last_below : (before : Alternatives) (penalty : ℕ) → BelowLast before penalty → penalty < last_penalty before
+last_below : (before : Alternatives) (penalty : ℕ) → BelowLast penalty before → penalty < last_penalty before
 last_below before penalty h = let last = ap last_penalty h.2 ∙ last_push h.0 h.1 in let below = h.3 in omega arith
 
 -- an alternative whose symbol is judged good
@@ -68,10 +67,10 @@ pub record Symbolled (bytes : List ℕ) (at : ℕ) (before : Alternatives) : Typ
   pub high : symbol_at bytes at ≤ 126
   pub fresh : seen (symbol_at bytes at) before ≡ false
 
-symbolled : (bytes : List ℕ) (at : ℕ) (before : Alternatives) → NewSymbol bytes at before → Symbolled bytes at before
+symbolled : (bytes : List ℕ) (at : ℕ) (before : Alternatives) → NewSymbolAt bytes at before → Symbolled bytes at before
 symbolled bytes at before h = record { room = h.0.0; low = h.0.1; high = h.0.2; fresh = new_unseen (symbol_at bytes at) before h.1 }
 
-new_symbol : (bytes : List ℕ) (at : ℕ) (before : Alternatives) → Symbolled bytes at before → NewSymbol bytes at before
+new_symbol : (bytes : List ℕ) (at : ℕ) (before : Alternatives) → Symbolled bytes at before → NewSymbolAt bytes at before
 new_symbol bytes at before h = ((h.room, h.low, h.high), unseen_new (symbol_at bytes at) before h.fresh)
 
 -- an alternative
@@ -101,16 +100,16 @@ alternative_refused bytes at before g le e =
     told : {y : AlternativeFault} → y ≡ g → AlternativeRefused bytes at before y → AlternativeRefused bytes at before g
     told is h = subst (AlternativeRefused bytes at before) is h
 
-pub refused_alternative : (bytes : List ℕ) (at : ℕ) (before : Alternatives) (g : AlternativeFault) → AlternativeRefused bytes at before g → read_alternative bytes at before ≡ Err g
-refused_alternative bytes at before (alternative.Short place) h =
+pub met_alternative : (bytes : List ℕ) (at : ℕ) (before : Alternatives) (g : AlternativeFault) → AlternativeRefused bytes at before g → read_alternative bytes at before ≡ Err g
+met_alternative bytes at before (alternative.Short place) h =
     ⊎_elim (λ none. let is = h.0 in grind (arith, nat_tests))
     (λ half. let is = h.0 in let upto = half.1 in let s = symbolled bytes at before half.0 in grind (arith, nat_tests, s.room, s.low, s.high, s.fresh)) h.1
-refused_alternative bytes at before (alternative.Symbol place) h = let is = h.0 in let room = h.1 in let out = h.2 in grind (arith, nat_tests)
-refused_alternative bytes at before (alternative.Twice place) h =
+met_alternative bytes at before (alternative.Symbol place) h = let is = h.0 in let room = h.1 in let out = h.2 in grind (arith, nat_tests)
+met_alternative bytes at before (alternative.Twice place) h =
     let is = h.0 in
     let own = has_seen (symbol_at bytes at) before h.2 in
     grind (arith, nat_tests, h.1.0, h.1.1, h.1.2)
-refused_alternative bytes at before (alternative.Order place) h =
+met_alternative bytes at before (alternative.Order place) h =
     let is = h.0 in
     let room = h.1 in
     let s = symbolled bytes at before h.2 in

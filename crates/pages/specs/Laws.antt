@@ -90,59 +90,67 @@ pub record MissingByte (bytes : List ℕ) (f : PageFault) : Type 0 where
 abbrev pub penalty_of : List ℕ → ℕ → ℕ
 penalty_of bytes at = slice_index bytes at * 256 + slice_index bytes (at + 1)
 
--- a count is due at a place, and refused: the page ends there, or the byte there is 0 or above the most
+-- a count is due at a place, and refused: the page ends there, or the byte there is 0 or above
+-- the most
 abbrev pub CountRefused : ℕ → List ℕ → ℕ → CountFault → Type 0
 CountRefused most bytes at (count.Short place) = (place ≡ at) × (at ≡ length bytes)
 CountRefused most bytes at (count.Count place) =
-    (place ≡ at) × (at < length bytes) × ((slice_index bytes at ≡ 0) ⊎ (most < slice_index bytes at))
+    (place ≡ at) × (at < length bytes)
+    × ((slice_index bytes at ≡ 0) ⊎ (most < slice_index bytes at))
+
+-- at a place stands a symbol in its range
+abbrev pub SymbolAt : List ℕ → ℕ → Type 0
+SymbolAt bytes at =
+    (at < length bytes) × (33 ≤ slice_index bytes at) × (slice_index bytes at ≤ 126)
 
 -- one of the alternatives has the symbol
 abbrev pub HasSymbol : Alternatives → ℕ → Type 0
-HasSymbol before symbol = Any (λ a. a.symbol ≡ symbol) before
+HasSymbol alternatives symbol = Any (λ a. a.symbol ≡ symbol) alternatives
 
--- at a place stands a symbol in its range
-abbrev pub SymbolThere : List ℕ → ℕ → Type 0
-SymbolThere bytes at =
-    (at < length bytes) × (33 ≤ slice_index bytes at) × (slice_index bytes at ≤ 126)
-
--- and none of the alternatives before it in its cell has it
-abbrev pub NewSymbol : List ℕ → ℕ → Alternatives → Type 0
-NewSymbol bytes at before = SymbolThere bytes at × ¬ HasSymbol before (slice_index bytes at)
+-- at a place stands a symbol in its range, which none of the alternatives before it has
+abbrev pub NewSymbolAt : List ℕ → ℕ → Alternatives → Type 0
+NewSymbolAt bytes at before = SymbolAt bytes at × ¬ HasSymbol before (slice_index bytes at)
 
 -- a penalty is below that of the last of the alternatives
-abbrev pub BelowLast : Alternatives → ℕ → Type 0
-BelowLast before penalty =
+abbrev pub BelowLast : ℕ → Alternatives → Type 0
+BelowLast penalty alternatives =
     (others : Alternatives) × (last : Alternative)
-    × (before ≡ others ++ last ∷ []) × (penalty < last.penalty)
+    × (alternatives ≡ others ++ last ∷ []) × (penalty < last.penalty)
 
--- an alternative is due at a place, behind those before it in its cell, and refused: the page ends at its symbol, or
--- behind a new symbol within its penalty; its symbol is out of range; it is in range, and one before has it; or it is
--- new, and the penalty is below that of the one just before
+-- an alternative is due at a place, and refused, where `before` stands before it in its own cell
 abbrev pub AlternativeRefused : List ℕ → ℕ → Alternatives → AlternativeFault → Type 0
+-- the page ends at the symbol, or, behind a new symbol, within its penalty
 AlternativeRefused bytes at before (alternative.Short place) =
-    (place ≡ length bytes) × ((place ≡ at) ⊎ (NewSymbol bytes at before × (place ≤ at + 2)))
+    (place ≡ length bytes)
+    × ((place ≡ at) ⊎ (NewSymbolAt bytes at before × (place ≤ at + 2)))
+-- the symbol is out of its range
 AlternativeRefused bytes at before (alternative.Symbol place) =
-    (place ≡ at) × (at < length bytes) × ((slice_index bytes at < 33) ⊎ (126 < slice_index bytes at))
+    (place ≡ at) × (at < length bytes)
+    × ((slice_index bytes at < 33) ⊎ (126 < slice_index bytes at))
+-- the symbol is in its range, and stands already before it in the cell
 AlternativeRefused bytes at before (alternative.Twice place) =
-    (place ≡ at) × SymbolThere bytes at × HasSymbol before (slice_index bytes at)
+    (place ≡ at) × SymbolAt bytes at × HasSymbol before (slice_index bytes at)
+-- the symbol is new, and its penalty below that of the alternative just before it in the cell
 AlternativeRefused bytes at before (alternative.Order place) =
-    (place ≡ at + 1) × (at + 2 < length bytes) × NewSymbol bytes at before
-    × BelowLast before (penalty_of bytes place)
+    (place ≡ at + 1) × (at + 2 < length bytes)
+    × NewSymbolAt bytes at before × BelowLast (penalty_of bytes place) before
 
--- at a place stands a count, not above the most; behind it stand whole parts, fewer than it counts, and the next part
--- is due at `next`
-pub record Before {X : Type 0} (most : ℕ) (well_formed : List X → Bool) (bytes_of : X → List ℕ) (bytes : List ℕ) (at : ℕ) (parts : List X) (next : ℕ) : Type 0 where
+-- at a place stands a count, not above the most; behind it stand whole parts, fewer than it counts,
+-- and the next part is due at `next`
+pub record PartsBefore {X : Type 0} (most : ℕ) (well_formed : List X → Bool)
+    (bytes_of : X → List ℕ) (bytes : List ℕ) (at : ℕ) (parts : List X) (next : ℕ) : Type 0 where
   pub count : slice_index bytes at ≤ most
   pub fewer : length parts < slice_index bytes at
   pub well : well_formed parts ≡ true
   pub stand : Stands bytes (at + 1) (flat_map bytes_of parts) next
 
--- of the cell at a place the count of alternatives is refused, or an alternative behind those before it in this cell
+-- of the cell at a place the count of alternatives is refused, or an alternative, behind those that
+-- stand before it in the cell
 abbrev pub CellMet : List ℕ → ℕ → CellFault → Type 0
 CellMet bytes at (cell.Count f) = CountRefused 8 bytes at f
 CellMet bytes at (cell.Alternative f) =
     (before : Alternatives) × (next : ℕ)
-    × Before 8 well_formed_alternatives alternative_bytes bytes at before next
+    × PartsBefore 8 well_formed_alternatives alternative_bytes bytes at before next
     × AlternativeRefused bytes next before f
 
 -- of the line at a place the count of cells is refused, or the cell named, behind whole ones
@@ -150,20 +158,22 @@ abbrev pub LineMet : List ℕ → ℕ → LineFault → Type 0
 LineMet bytes at (line.Count f) = CountRefused 24 bytes at f
 LineMet bytes at (line.Cell c) =
     (cells : Cells) × (next : ℕ) × (length cells ≡ c.number)
-    × Before 24 (every well_formed_cell) cell_bytes bytes at cells next
+    × PartsBefore 24 (every well_formed_cell) cell_bytes bytes at cells next
     × CellMet bytes next c.fault
 
--- the count of lines is refused; or the line named, behind whole ones; or what stands behind a whole page
+-- the count of lines is refused, or the line named, behind whole ones; or a byte stands behind a
+-- whole page
 abbrev pub Met : List ℕ → PageFault → Type 0
 Met bytes (page.Count f) = CountRefused 40 bytes 0 f
 Met bytes (page.Line l) =
     (lines : Lines) × (next : ℕ) × (length lines ≡ l.number)
-    × Before 40 (every well_formed_line) line_bytes bytes 0 lines next
+    × PartsBefore 40 (every well_formed_line) line_bytes bytes 0 lines next
     × LineMet bytes next l.fault
 Met bytes (page.Excess at) =
-    (lines : Lines) × (well_formed_page lines ≡ true) × Stands bytes 0 (page_bytes lines) at × (at < length bytes)
+    (lines : Lines) × (well_formed_page lines ≡ true)
+    × Stands bytes 0 (page_bytes lines) at × (at < length bytes)
 
--- a refusal names the first thing wrong: what it says is so, and is so of no other fault
+-- a refusal names the first thing wrong: it is met, and no other fault is
 pub record FirstWrong (bytes : List ℕ) (f : PageFault) : Type 0 where
   pub met : Met bytes f
   pub alone : (other : PageFault) → Met bytes other → other ≡ f

@@ -50,7 +50,7 @@ every f (x ∷ xs) = f x && every f xs
 abbrev pub one_to : ℕ → ℕ → Bool
 one_to most n = nat_le 1 n && nat_le n most
 
--- what may stand in a page file: the alternatives of one cell, the first of them, or none
+-- what may stand in a page file: the alternatives of a cell, all of them or those before another
 unfoldable pub well_formed_alternatives : Alternatives → Bool
 well_formed_alternatives c = every in_range c && once c && rising 0 c
 
