@@ -15,7 +15,7 @@ use Rattle.pages.specs.declared.faults.PageFault.TheVariants as page
 use Rattle.pages.specs.Shape.{Alternatives, Cells, Lines, well_formed_cell, well_formed_line}
 use Rattle.pages.specs.Reading.{onward, read_alternative, read_alternatives, read_count, read_cell, read_cells, read_line, read_lines, read_page, before_lines}
 use Rattle.pages.specs.Writing.{alternative_bytes, cell_bytes, line_bytes}
-use Rattle.pages.specs.Laws.{Stands, AlternativeRefused, PartsBefore, CellMet, LineMet, Met}
+use Rattle.pages.specs.Laws.{Stands, AlternativeRefused, PartsBefore, CellMet, LineMet, Met, Refused}
 use Rattle.pages.proofs.Shape.{WellFormedCell, WellFormedLine, all_every, every_all, cell_parts, cell_from, line_parts, line_from, page_parts, page_from}
 use Rattle.pages.proofs.Steps.{counts}
 use Rattle.pages.proofs.Causes.{count_refused, met_count, alternative_refused, met_alternative}
@@ -258,5 +258,5 @@ met_page bytes (page.Excess at) (lines, well, h, room) =
     ∙ ap (λ n. read_lines bytes n 1 0) (sym (add-zero (length lines)))
     ∙ lines_fault bytes 1 0 0 (length lines) at lines (page.Excess at) w.lines one.behind (omega arith) (cond-true (ltb at (length bytes)) _ _ (lt-ltb at (length bytes) room))
 
-pub met_alone : (bytes : List ℕ) (f other : PageFault) → read_page bytes ≡ Err f → Met bytes other → other ≡ f
-met_alone bytes f other e h = let is = met_page bytes other h in cc
+pub refused_exactly : (bytes : List ℕ) → Octets bytes → Refused bytes
+refused_exactly bytes all f = (page_met bytes f all, met_page bytes f)

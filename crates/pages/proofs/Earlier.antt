@@ -23,7 +23,7 @@ use Rattle.pages.specs.Laws.{Stands, Begins, alternative_judged, cell_judged, li
 use Rattle.pages.proofs.Shape.{InRange, WellFormedCell, WellFormedLine, WellFormedPage, page_parts, page_from}
 use Rattle.pages.proofs.Steps.{counts}
 use Rattle.pages.proofs.Causes.{Symbolled}
-use Rattle.pages.proofs.Behind.{page_met, met_alone}
+use Rattle.pages.proofs.Behind.{page_met}
 use Rattle.pages.proofs.Round.{Octets, Fair, fair_cell, reads, alternative_stands, fair_one, got_cell, line_read, last_push, page_back}
 use Rattle.pages.proofs.Local.{shorter, still_read, alternative_local, count_local, cell_local, line_local, jC, jL, bad_before, page_refused}
 
@@ -589,7 +589,6 @@ first_wrong bytes f all e =
     let told = page_refused bytes f e in
     record {
       met = page_met bytes f all e;
-      alone = λ other h. met_alone bytes f other e h;
       missing =
           λ one.
           let end : (page_returns f).place ≡ length bytes = ⊎_elim (λ fits. absurd (fits.1 one)) (λ out. omega (arith, out.0, page_short f one)) told.within in

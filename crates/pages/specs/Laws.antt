@@ -1,5 +1,5 @@
 -- What reading and writing come to, in the words of the page file. Assumes nothing.
-use Rattle.std.specs.Prelude.{◌≡◌, ℕ, ◌+◌, ◌-◌, ◌*◌, ◌<◌, ◌≤◌, Bool, true, ◌⊎◌, List, [], ◌∷◌, ◌++◌, length, take, drop, Ok, Err, Result, ◌≢◌, Any, slice_index}
+use Rattle.std.specs.Prelude.{◌≡◌, ℕ, ◌+◌, ◌-◌, ◌*◌, ◌<◌, ◌≤◌, Bool, true, ◌⊎◌, ◌↔◌, List, [], ◌∷◌, ◌++◌, length, take, drop, Ok, Err, Result, ◌≢◌, Any, slice_index}
 use Rattle.std.specs.List.{flat_map}
 use Rattle.pages.specs.declared.lines.Alternative.{Alternative}
 use Rattle.pages.specs.declared.faults.AlternativeFault.{AlternativeFault}
@@ -173,9 +173,12 @@ Met bytes (page.Excess at) =
     (lines : Lines) × (well_formed_page lines ≡ true)
     × Stands bytes 0 (page_bytes lines) at × (at < length bytes)
 
--- a refusal names the first thing wrong: it is met, and no other fault is
+-- the bytes are refused for a fault exactly when it is met
+abbrev pub Refused : List ℕ → Type 0
+Refused bytes = (f : PageFault) → (read_page bytes ≡ Err f) ↔ Met bytes f
+
+-- a refusal names the first thing wrong
 pub record FirstWrong (bytes : List ℕ) (f : PageFault) : Type 0 where
   pub met : Met bytes f
-  pub alone : (other : PageFault) → Met bytes other → other ≡ f
   pub missing : (page_returns f).number ≡ 1 → MissingByte bytes f
   pub wrong : ((page_returns f).number ≢ 1) → WrongByte bytes f

@@ -3,7 +3,7 @@ ghost use Rattle.std.specs.Prelude.{◌≡◌, IfErr};
 ghost use Rattle.std.specs.Iterator.{YieldsFirstBy, item_count};
 ghost use Rattle.pages.specs.Reading.{read_page, line_numbered};
 ghost use Rattle.pages.specs.Answers.{Opened, NextLine, Ahead, answer_of, answers_left, GoesThrough, found_line};
-ghost use Rattle.pages.specs.Laws.{Accepted, FirstWrong};
+ghost use Rattle.pages.specs.Laws.{Accepted, Refused, FirstWrong};
 
 use crate::faults::{Numbered, PageFault};
 use crate::line_reader::{read_count_of, read_line_at};
@@ -96,6 +96,7 @@ impl<'a> Iterator for IntoLines<'a> {
 pub fn line_of_page(bytes: &[u8], wanted: usize) -> Result<Option<Line>, PageFault>
     ensures answer { found_line result ≡ line_numbered wanted (read_page bytes.now) }
     ensures accepted { Accepted bytes.now }
+    ensures refused { Refused bytes.now }
     ensures first_wrong { IfErr result (FirstWrong bytes.now) }
 {
     let mut found = None;

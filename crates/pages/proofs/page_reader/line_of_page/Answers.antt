@@ -6,19 +6,21 @@ use Rattle.pages.specs.declared.lines.Line.{Line}
 use Rattle.pages.specs.declared.page_reader.IntoLines.{IntoLines}
 use Rattle.pages.specs.Reading.{line_numbered, read_page}
 use Rattle.pages.specs.Answers.{found_line, answer_of, answers_left}
-use Rattle.pages.specs.Laws.{Accepted, FirstWrong}
+use Rattle.pages.specs.Laws.{Accepted, Refused, FirstWrong}
 use Rattle.pages.proofs.Paging.{left_few, keep_more, keep_bad, keep_all}
 use Rattle.pages.proofs.Round.{Octets, accepted_exactly}
+use Rattle.pages.proofs.Behind.{refused_exactly}
 use Rattle.pages.proofs.Earlier.{first_wrong}
 use Rattle.pages.proofs.page_reader.line_of_page.Goals as goal
 
 -- what is answered where the page is refused
 at_fault : (r : Result (Option Line) PageFault) (bytes : List ℕ) (wanted : ℕ) {f : PageFault} → Octets bytes → r ≡ Err f → Err f ≡ read_page bytes
-    → record { answer : found_line r ≡ line_numbered wanted (read_page bytes); accepted : Accepted bytes; first_wrong : IfErr r (FirstWrong bytes) }
+    → record { answer : found_line r ≡ line_numbered wanted (read_page bytes); accepted : Accepted bytes; refused : Refused bytes; first_wrong : IfErr r (FirstWrong bytes) }
 at_fault r bytes wanted {f} all e h =
     record {
       answer = ap found_line e ∙ ap (line_numbered wanted) h;
       accepted = accepted_exactly bytes all;
+      refused = refused_exactly bytes all;
       first_wrong = subst (λ x. IfErr x (FirstWrong bytes)) (sym e) (first_wrong bytes f all (sym h));
     }
 
@@ -69,5 +71,6 @@ returns c =
     record {
       answer = keep_all c.loop-number.invariant c.in-None.ensures.steps.0.0;
       accepted = accepted_exactly c.args.bytes.now (λ i. (c.type_inv.bytes i).fits);
+      refused = refused_exactly c.args.bytes.now (λ i. (c.type_inv.bytes i).fits);
       first_wrong = tt;
     }
