@@ -18,7 +18,7 @@ use Rattle.search.proofs.Texts as texts
 use Rattle.bench.specs.Searched.{admitted, due}
 use Rattle.bench.proofs.Searches.{FirstPassing, due_at}
 use Rattle.reader.specs.Views.{View, unloaded}
-use Rattle.runs.specs.Runs.{Event, loaded, granted, found, spent, exhausted, reported, refused, Moment, moment, line_after, line_in, granted_after, granted_in, handed_after, handed_in, looked_in, IsNext, IsFound, looked_still, live_chains, Admissible, UnseenWithin, Lawful}
+use Rattle.runs.specs.Runs.{Event, loaded, granted, found, spent, exhausted, reported, refused, Moment, moment, line_after, line_in, granted_after, granted_in, handed_after, handed_in, looked_in, seen_after, IsNext, IsFound, looked_still, live_chains, Admissible, UnseenWithin, Lawful}
 use Rattle.runs.specs.Steps.{Tracks}
 
 -- none of the list is admitted
@@ -33,23 +33,16 @@ looked_more c k m cs le h = Contains-take k (take m cs) c (rw (take-take k m cs 
 
 pub tracks_start : (s : Meaning) (g : Sets) → Tracks s g [] unloaded
 tracks_start s g = record {
-  line = refl;
-  granted_is = refl;
-  looked_is = refl;
-  handed_is = refl;
+  seen_is = refl;
   within = omega arith;
   reached = λ l e. omega arith;
   seen = λ l e c. (λ m. absurd (no_member c m), λ q. absurd (no_member c q.0));
 }
 
 -- after a lawful moment the history agrees with what is then seen of the reader
-pub tracks_after : {s : Meaning} {g : Sets} {h : List Moment} {x : Moment} (v : View) → Lawful s g h x
-    → line_in (x ∷ h) ≡ v.line → granted_in (x ∷ h) ≡ v.granted → x.looked ≡ v.looked → length (handed_in (x ∷ h)) ≡ v.handed → Tracks s g (x ∷ h) v
-tracks_after v lawful el eg ek eh = record {
-  line = el;
-  granted_is = eg;
-  looked_is = ek;
-  handed_is = eh;
+pub tracks_after : {s : Meaning} {g : Sets} {h : List Moment} {x : Moment} (v : View) → Lawful s g h x → v ≡ seen_after s (x ∷ h) → Tracks s g (x ∷ h) v
+tracks_after v lawful seen_is = record {
+  seen_is = seen_is;
   within = lawful.never_above_grant;
   reached = lawful.never_past_end;
   seen = lawful.first_looked_handed;

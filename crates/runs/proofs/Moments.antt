@@ -1,12 +1,13 @@
 -- What each call makes of a history, by what its contract says that it comes to. Assumes nothing.
 use Rattle.std.proofs.Common.{◌≡◌, ℕ, ◌+◌, ◌-◌, ◌≤◌, min, Bool, true, false, cond, ltb, List, ◌∷◌, ◌++◌, length, take, drop, Some, None, Ok, Err, Option, Result, sym, refl, ap, ◌∙◌, subst, subst₂, arith}
+use Rattle.std.specs.Option.{option_map}
 use Rattle.std.specs.Result.{result_map_both}
 use Rattle.std.proofs.lemmas.Bool.{ltb-true, ltb-false}
 use Rattle.scores.specs.Scores.{Meaning, Laws}
 use Rattle.grammars.specs.Grammars as grammars
 use Rattle.grammars.specs.Grammars.{Sets}
 use Rattle.pages.specs.Shape.{Cells}
-use Rattle.search.specs.Chains.{Chain, text}
+use Rattle.search.specs.Chains.{Chain, text, total}
 use Rattle.reader.specs.declared.calls.Outcome.{Outcome}
 use Rattle.reader.specs.declared.calls.Outcome.TheVariants.{Spent, Exhausted}
 use Rattle.reader.specs.declared.calls.Report.{Report}
@@ -22,7 +23,7 @@ use Rattle.bench.proofs.Searches.{passing_first, passing_none, due_chain}
 use Rattle.bench.proofs.Texts.{text_long}
 use Rattle.reader.specs.Views.{View}
 use Rattle.reader.specs.Calls.{loading, answered, loaded_into, granting, granting_to, granted_more, Nexted, refuse_next, next_came, next_on, next_of, Reports, cells_of, PlacesInUse}
-use Rattle.runs.specs.Runs.{Reported, loaded, granted, found, spent, exhausted, reported, refused, Moment, moment, line_in, granted_in, handed_in, looked_in, live_chains, Lawful, cut, overwritten, NextRefused, CallMade, load_taken, load_refused, grant_taken, grant_refused, next_found, next_spent, next_exhausted, next_refused, report_made}
+use Rattle.runs.specs.Runs.{Reported, loaded, granted, found, spent, exhausted, reported, refused, Moment, moment, line_in, granted_in, handed_in, looked_in, seen_after, live_chains, Lawful, cut, overwritten, NextRefused, CallMade, load_taken, load_refused, grant_taken, grant_refused, next_found, next_spent, next_exhausted, next_refused, report_made}
 use Rattle.runs.specs.Steps.{Tracks, Made}
 use Rattle.runs.proofs.Parts.{cut_is, put_is, overwritten_rest, overwritten_same}
 use Rattle.runs.proofs.Histories.{NoneAdmitted, tracks_after, refused_lawful, reported_lawful, granted_lawful, loaded_lawful, spent_lawful, exhausted_lawful, found_lawful}
@@ -48,10 +49,6 @@ next_step places part x = record { answer = answering answer.Next x.answer; stat
 abbrev pub report_step : View → List ℕ → Report → Step
 report_step v places r = record { answer = Ok (answer.Reported r); state = v; places = places }
 
--- what is seen of the reader after h
-abbrev seen_after : List Moment → Option ℕ → View
-seen_after h last = record { line = line_in h; granted = granted_in h; looked = looked_in h; handed = length (handed_in h); last_total = last }
-
 module _ (s : Meaning) (g : Sets) (pages places : List ℕ) where
   abbrev pub Makes : View → Call → Step → Type 0
   Makes v c x = Made s g pages v places c x.answer x.state x.places
@@ -61,47 +58,47 @@ module _ (s : Meaning) (g : Sets) (pages places : List ℕ) where
   MakesAfter h c x = (m : Moment) × CallMade s g pages h places c x.answer m x.places × Lawful s g h m × Tracks s g (m ∷ h) x.state
 
   -- it is enough to show it of what is seen after a history
-  makes_seen : (c : Call) (x : View → Step) → ((h : List Moment) (last : Option ℕ) → Tracks s g h (seen_after h last) → MakesAfter h c (x (seen_after h last))) → (v : View) → Makes v c (x v)
-  makes_seen c x makes v h t = subst (λ v. MakesAfter h c (x v)) (sym seen) (makes h v.last_total (subst (Tracks s g h) seen t))
-    where
-      seen : v ≡ seen_after h v.last_total
-      seen = λ i. record { line = (sym t.line) i; granted = (sym t.granted_is) i; looked = (sym t.looked_is) i; handed = (sym t.handed_is) i; last_total = v.last_total }
+  makes_seen : (c : Call) (x : View → Step) → ((h : List Moment) → Tracks s g h (seen_after s h) → MakesAfter h c (x (seen_after s h))) → (v : View) → Makes v c (x v)
+  makes_seen c x makes v h t = subst (λ v. MakesAfter h c (x v)) (sym t.seen_is) (makes h (subst (Tracks s g h) t.seen_is t))
 
   -- a call makes a lawful moment, and what is then seen of the reader is as the history says
-  makes_lawful : (h : List Moment) (c : Call) (x : Step) (m : Moment) → CallMade s g pages h places c x.answer m x.places → Lawful s g h m
-      → line_in (m ∷ h) ≡ x.state.line → granted_in (m ∷ h) ≡ x.state.granted → m.looked ≡ x.state.looked → length (handed_in (m ∷ h)) ≡ x.state.handed → MakesAfter h c x
-  makes_lawful h c x m made lawful el eg ek eh = (m, made, lawful, tracks_after x.state lawful el eg ek eh)
+  makes_lawful : (h : List Moment) (c : Call) (x : Step) (m : Moment) → CallMade s g pages h places c x.answer m x.places → Lawful s g h m → x.state ≡ seen_after s (m ∷ h) → MakesAfter h c x
+  makes_lawful h c x m made lawful seen_is = (m, made, lawful, tracks_after x.state lawful seen_is)
 
   pub load_makes : (part : Part) (n : ℕ) (v : View) → Makes v (call.Load part n) (load_step v places (loading s (cut pages part) n))
-  load_makes part n = makes_seen (call.Load part n) (λ v. load_step v places (loading s (cut pages part) n)) (λ h last t. by_answer h last t _ refl)
+  load_makes part n = makes_seen (call.Load part n) (λ v. load_step v places (loading s (cut pages part) n)) (λ h t. by_answer h t _ refl)
     where
-      by_answer : (h : List Moment) (last : Option ℕ) → Tracks s g h (seen_after h last) → (r : Result Cells Refusal) → loading s (cut pages part) n ≡ r → MakesAfter h (call.Load part n) (load_step (seen_after h last) places r)
-      by_answer h last t (Ok l) e = makes_lawful h _ _ (moment (loaded l) 0) (load_taken e) (loaded_lawful s g h (seen_after h last) t l) refl refl refl refl
-      by_answer h last t (Err r) e = makes_lawful h _ _ (moment refused (looked_in h)) (load_refused e) (refused_lawful s g h (seen_after h last) t) refl refl refl refl
+      by_answer : (h : List Moment) → Tracks s g h (seen_after s h) → (r : Result Cells Refusal) → loading s (cut pages part) n ≡ r → MakesAfter h (call.Load part n) (load_step (seen_after s h) places r)
+      by_answer h t (Ok l) e = makes_lawful h _ _ (moment (loaded l) 0) (load_taken e) (loaded_lawful s g h (seen_after s h) t l) refl
+      by_answer h t (Err r) e = makes_lawful h _ _ (moment refused (looked_in h)) (load_refused e) (refused_lawful s g h (seen_after s h) t) refl
 
   pub grant_makes : (n : ℕ) (v : View) → Makes v (call.Grant n) (grant_step v places n (granting v n))
-  grant_makes n = makes_seen (call.Grant n) (λ v. grant_step v places n (granting v n)) (λ h last t. by_answer h last t _ refl)
+  grant_makes n = makes_seen (call.Grant n) (λ v. grant_step v places n (granting v n)) (λ h t. by_answer h t _ refl)
     where
-      by_answer : (h : List Moment) (last : Option ℕ) → Tracks s g h (seen_after h last) → (r : Result (Unit {0}) Refusal) → granting_to (line_in h) (granted_in h) n ≡ r → MakesAfter h (call.Grant n) (grant_step (seen_after h last) places n r)
-      by_answer h last t (Ok done) e = makes_lawful h _ _ (moment (granted n) (looked_in h)) (grant_taken e) (granted_lawful s g h (seen_after h last) t n) refl refl refl refl
-      by_answer h last t (Err r) e = makes_lawful h _ _ (moment refused (looked_in h)) (grant_refused e) (refused_lawful s g h (seen_after h last) t) refl refl refl refl
+      by_answer : (h : List Moment) → Tracks s g h (seen_after s h) → (r : Result (Unit {0}) Refusal) → granting_to (line_in h) (granted_in h) n ≡ r → MakesAfter h (call.Grant n) (grant_step (seen_after s h) places n r)
+      by_answer h t (Ok done) e = makes_lawful h _ _ (moment (granted n) (looked_in h)) (grant_taken e) (granted_lawful s g h (seen_after s h) t n) refl
+      by_answer h t (Err r) e = makes_lawful h _ _ (moment refused (looked_in h)) (grant_refused e) (refused_lawful s g h (seen_after s h) t) refl
 
   pub report_makes : (r : Report) (v : View) → Reports v r → Makes v call.Report (report_step v places r)
-  report_makes r v q h t = makes_lawful h _ _ (moment reported (looked_in h)) (report_made told) (reported_lawful s g h v t) t.line t.granted_is t.looked_is t.handed_is
+  report_makes r v q h t = makes_lawful h _ _ (moment reported (looked_in h)) (report_made told) (reported_lawful s g h v t) t.seen_is
     where
       told : Reported h r
       told = record {
-        cells = q.cells ∙ ap cells_of (sym t.line);
-        granted_is = q.granted ∙ sym t.granted_is;
-        looked_is = q.looked ∙ sym t.looked_is;
-        handed_is = q.handed ∙ sym t.handed_is;
-        places = subst₂ (λ o k. PlacesInUse o k r.places) (sym t.line) (sym t.looked_is) q.places;
+        cells = q.cells ∙ ap (λ v. cells_of v.line) t.seen_is;
+        granted_is = q.granted ∙ ap (λ v. v.granted) t.seen_is;
+        looked_is = q.looked ∙ ap (λ v. v.looked) t.seen_is;
+        handed_is = q.handed ∙ ap (λ v. v.handed) t.seen_is;
+        places = subst (λ v. PlacesInUse v.line v.looked r.places) t.seen_is q.places;
       }
 
   module _ (laws : Laws s) (lawful : grammars.Lawful g) (part : Part) where
-    module _ (h : List Moment) (last : Option ℕ) (t : Tracks s g h (seen_after h last)) where
+    module _ (h : List Moment) (t : Tracks s g h (seen_after s h)) where
       abbrev v : View
-      v = seen_after h last
+      v = seen_after s h
+
+      -- with so many looked at and handed out, and such a last total
+      abbrev seen_with : ℕ → ℕ → Option ℕ → View
+      seen_with looked handed last = record { line = v.line; granted = v.granted; looked = looked; handed = handed; last_total = last }
 
       abbrev Nexts : Nexted → Type 0
       Nexts x = MakesAfter h (call.Next part) (next_step places part x)
@@ -111,26 +108,31 @@ module _ (s : Meaning) (g : Sets) (pages places : List ℕ) where
       same_place {a = a} {m = m} = subst (CallMade s g pages h places (call.Next part) a m) (sym (overwritten_same places part))
 
       next_not : (r : Refusal) → NextRefused (line_in h) (cut places part) r → Nexts (refuse_next v (cut places part) r)
-      next_not r why = makes_lawful h _ _ (moment refused (looked_in h)) (same_place (next_refused why)) (refused_lawful s g h v t) refl refl refl refl
+      next_not r why = makes_lawful h _ _ (moment refused (looked_in h)) (same_place (next_refused why)) (refused_lawful s g h v t) refl
 
       module _ (l : Cells) (el : line_in h ≡ Some l) where
         module _ (room : length l ≤ length (cut places part)) where
           -- nothing found, and a live chain left or not
           left_or_not : NoneAdmitted g l (due s g l (looked_in h) (granted_in h)) → (b : Bool) → ltb (granted_in h) (length (live_chains s g l)) ≡ b
-              → Nexts (record { answer = Ok (cond b Spent Exhausted); state = record { line = v.line; granted = v.granted; looked = min (granted_in h) (length (live_chains s g l)); handed = v.handed; last_total = last }; place = cut places part })
+              → Nexts (record { answer = Ok (cond b Spent Exhausted); state = record { line = v.line; granted = v.granted; looked = min (granted_in h) (length (live_chains s g l)); handed = v.handed; last_total = v.last_total }; place = cut places part })
           left_or_not none true q =
               let left = ltb-true (granted_in h) (length (live_chains s g l)) q in
-              makes_lawful h _ _ (moment spent (granted_in h)) (same_place (next_spent el room)) (spent_lawful s laws g lawful l h v t el left none) refl refl (omega arith) refl
+              let looked : min (granted_in h) (length (live_chains s g l)) ≡ granted_in h = omega arith in
+              makes_lawful h _ _ (moment spent (granted_in h)) (same_place (next_spent el room)) (spent_lawful s laws g lawful l h v t el left none) (ap (λ k. seen_with k v.handed v.last_total) looked)
           left_or_not none false q =
               let end = ltb-false (granted_in h) (length (live_chains s g l)) q in
-              makes_lawful h _ _ (moment exhausted (length (live_chains s g l))) (same_place (next_exhausted el room)) (exhausted_lawful s laws g lawful l h v t el end none) refl refl (omega arith) refl
+              let looked : min (granted_in h) (length (live_chains s g l)) ≡ length (live_chains s g l) = omega arith in
+              makes_lawful h _ _ (moment exhausted (length (live_chains s g l))) (same_place (next_exhausted el room)) (exhausted_lawful s laws g lawful l h v t el end none) (ap (λ k. seen_with k v.handed v.last_total) looked)
 
           found_or_not : (o : Option (ℕ × Chain)) → first_passing (admitted g l) (due s g l (looked_in h) (granted_in h)) ≡ o → Nexts (next_came s l v (cut places part) (length (live_chains s g l)) o)
           found_or_not (Some at) q =
               let first = passing_first (admitted g l) (due s g l (looked_in h) (granted_in h)) at.0 at.1 q in
               let long : length (text l at.1) ≡ length l = text_long l at.1 (due_chain s laws g l (looked_in h) (granted_in h) at.0 at.1 first).long in
               let over = sym (overwritten_rest places part (text l at.1) (omega arith)) ∙ ap (λ n. overwritten places part (text l at.1 ++ drop n (cut places part))) long in
-              makes_lawful h _ _ (moment (found at.1) (looked_in h + at.0 + 1)) (subst (CallMade s g pages h places (call.Next part) _ _) over (next_found el room)) (found_lawful s laws g lawful l h v t el at.0 at.1 first) refl refl refl (omega arith)
+              let handed : v.handed + 1 ≡ length (at.1 ∷ handed_in h) = omega arith in
+              let last : Some (total s l at.1) ≡ option_map (λ l. total s l at.1) (line_in h) = sym (ap (option_map (λ l. total s l at.1)) el) in
+              makes_lawful h _ _ (moment (found at.1) (looked_in h + at.0 + 1)) (subst (CallMade s g pages h places (call.Next part) _ _) over (next_found el room)) (found_lawful s laws g lawful l h v t el at.0 at.1 first)
+              (λ i. seen_with (v.looked + at.0 + 1) (handed i) (last i))
           found_or_not None q = left_or_not (passing_none (admitted g l) (due s g l (looked_in h) (granted_in h)) q) _ refl
 
         place_or_not : (b : Bool) → ltb (length (cut places part)) (length l) ≡ b
@@ -143,7 +145,7 @@ module _ (s : Meaning) (g : Sets) (pages places : List ℕ) where
       line_or_not (Some l) e = place_or_not l e _ refl
 
     pub next_makes : (v : View) → Makes v (call.Next part) (next_step places part (next_of s g v (cut places part)))
-    next_makes = makes_seen (call.Next part) (λ v. next_step places part (next_of s g v (cut places part))) (λ h last t. line_or_not h last t _ refl)
+    next_makes = makes_seen (call.Next part) (λ v. next_step places part (next_of s g v (cut places part))) (λ h t. line_or_not h t _ refl)
 
   -- the same in other words
   pub made_as : {v v' : View} {c c' : Call} {a : Result Answer Refusal} {after : List ℕ} {x : Step} → c ≡ c' → a ≡ x.answer → v' ≡ x.state → after ≡ x.places → Makes v c' x → Made s g pages v places c a v' after

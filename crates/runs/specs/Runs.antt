@@ -1,9 +1,10 @@
 -- Runs: what came of any list of calls on a new reader, and the law of each. Assumes nothing.
 use Rattle.std.specs.Prelude.{◌≡◌, ℕ, ◌+◌, ◌<◌, ◌≤◌, true, ◌⊎◌, ◌↔◌, Contains, List, [], ◌∷◌, ◌++◌, length, take, drop, Some, None, Ok, Err, Option, Result}
+use Rattle.std.specs.Option.{option_map}
 use Rattle.pages.specs.Shape.{Cells}
 use Rattle.scores.specs.Scores.{Meaning}
 use Rattle.grammars.specs.Grammars.{Sets}
-use Rattle.search.specs.Chains.{Chain, ChainOf, text, before, ranking}
+use Rattle.search.specs.Chains.{Chain, ChainOf, text, total, before, ranking}
 use Rattle.reader.specs.declared.calls.Outcome.TheVariants.{Found, Spent, Exhausted}
 use Rattle.reader.specs.declared.calls.Report.{Report}
 use Rattle.reader.specs.declared.refusals.Refusal.{Refusal}
@@ -15,6 +16,7 @@ use Rattle.runs.specs.declared.rows.Answer.{Answer}
 use Rattle.runs.specs.declared.rows.Answer.TheVariants as answer
 use Rattle.runs.specs.declared.rows.Row.{Row}
 use Rattle.bench.specs.Searched.{admitted}
+use Rattle.reader.specs.Views.{View}
 use Rattle.reader.specs.Calls.{loading, granting_to, cells_of, PlacesInUse}
 
 -- What came of a call, seen from outside.
@@ -68,6 +70,26 @@ handed_in (x ∷ h) = handed_after x.event (handed_in h)
 abbrev pub looked_in : List Moment → ℕ
 looked_in [] = 0
 looked_in (x ∷ h) = x.looked
+
+-- the total of the last reading handed out since
+abbrev pub last_total_after : Meaning → Option Cells → Event → Option ℕ → Option ℕ
+last_total_after s line (loaded l) last = None
+last_total_after s line (found c) last = option_map (λ l. total s l c) line
+last_total_after s line e last = last
+
+abbrev pub last_total_in : Meaning → List Moment → Option ℕ
+last_total_in s [] = None
+last_total_in s (x ∷ h) = last_total_after s (line_in h) x.event (last_total_in s h)
+
+-- what is seen of a reader that had no line at the start
+abbrev pub seen_after : Meaning → List Moment → View
+seen_after s h = record {
+  line = line_in h;
+  granted = granted_in h;
+  looked = looked_in h;
+  handed = length (handed_in h);
+  last_total = last_total_in s h;
+}
 
 -- a next that was not refused, and one that found a reading
 abbrev pub IsNext : Event → Type 0
@@ -172,3 +194,8 @@ pub data Ran (s : Meaning) (g : Sets) (pages places : List ℕ) : List Row → L
 
 abbrev pub Runs : Meaning → Sets → List ℕ → List ℕ → List Row → List Row → List ℕ → Type 0
 Runs s g pages places rows rows' places' = (h : List Moment) × Ran s g pages places rows rows' h places'
+
+-- the same with what is then seen of the reader
+abbrev pub RunsOn : Meaning → Sets → List ℕ → List ℕ → List Row → List Row → List ℕ → View → Type 0
+RunsOn s g pages places rows rows' places' seen =
+    (h : List Moment) × Ran s g pages places rows rows' h places' × (seen ≡ seen_after s h)

@@ -9,14 +9,11 @@ use Rattle.reader.specs.declared.refusals.Refusal.{Refusal}
 use Rattle.reader.specs.Views.{View}
 use Rattle.runs.specs.declared.rows.Call.{Call}
 use Rattle.runs.specs.declared.rows.Answer.{Answer}
-use Rattle.runs.specs.Runs.{Moment, line_in, granted_in, handed_in, looked_in, live_chains, Lawful, CallMade}
+use Rattle.runs.specs.Runs.{Moment, line_in, granted_in, handed_in, looked_in, seen_after, live_chains, Lawful, CallMade}
 
 -- The history and the reader's view agree.
 pub record Tracks (s : Meaning) (g : Sets) (h : List Moment) (v : View) : Type 0 where
-  pub line : line_in h ≡ v.line
-  pub granted_is : granted_in h ≡ v.granted
-  pub looked_is : looked_in h ≡ v.looked
-  pub handed_is : length (handed_in h) ≡ v.handed
+  pub seen_is : v ≡ seen_after s h
   pub within : looked_in h ≤ granted_in h
   pub reached : (l : Cells) → line_in h ≡ Some l → looked_in h ≤ length (live_chains s g l)
   pub seen : (l : Cells) → line_in h ≡ Some l → (c : Chain) → Contains (handed_in h) c ↔ (Contains (take (looked_in h) (live_chains s g l)) c × (admitted g l c ≡ true))

@@ -1,8 +1,8 @@
 // Makes the calls of a run.
 ghost use Rattle.std.specs.Prelude.{◌≡◌, MatchResult};
-ghost use Rattle.reader.specs.Views.{view, Kept, Agrees};
+ghost use Rattle.reader.specs.Views.{view, unloaded, Kept, Agrees};
 ghost use Rattle.runs.specs.Determined.{Determined};
-ghost use Rattle.runs.specs.Runs.{Runs};
+ghost use Rattle.runs.specs.Runs.{Runs, RunsOn};
 ghost use Rattle.runs.specs.Steps.{Made};
 
 use crate::rows::{Answer, Call, Row};
@@ -41,8 +41,32 @@ fn answer_call<G: Grammar + Drop, S: Score + Drop>(
     }
 }
 
-// Makes a reader, runs the rows on it in their order, and writes the answer of each into its row. Where there is no memory
-// for a reader nothing is touched. By `determined` the law leaves nothing open but the places in use that a report tells.
+/// Makes the calls of the rows, in their order, on a reader that is made and has no line yet, and
+/// writes the answer of each into its row. Pages are parts of `pages`, places parts of `places`,
+/// both in bytes from 0 on. It cannot fail. docs/reader.md has the law; by `determined` nothing is
+/// left open but the places in use that a report tells.
+pub fn run_on<G: Grammar + Drop, S: Score + Drop>(
+    reader: &mut Reader<G, S>,
+    pages: &[u8],
+    places: &mut [u8],
+    rows: &mut [Row],
+)
+    requires agrees { Agrees S.meaning (G.meaning reader.old.grammar) reader.old }
+    requires unloaded { view reader.old ≡ unloaded }
+    ensures law { RunsOn S.meaning (G.meaning reader.old.grammar) pages.now places.old rows.old
+        rows.new places.new (view reader.new) }
+    ensures determined { Determined S.meaning (G.meaning reader.old.grammar) pages.now places.old
+        rows.old }
+    ensures agrees { Agrees S.meaning (G.meaning reader.old.grammar) reader.new }
+    ensures kept { Kept reader.old reader.new }
+{
+    for row in rows.iter_mut() {
+        row.answer = Some(answer_call(reader, pages, places, row.call));
+    }
+}
+
+/// Makes a reader, and runs the rows on it by `run_on`. The error is that there is no memory for a
+/// reader: rows and places are then as they were. docs/reader.md has the law.
 pub fn run<G: Grammar + Drop, S: Score + Drop>(
     heap: Global,
     grammar: G,
@@ -55,8 +79,6 @@ pub fn run<G: Grammar + Drop, S: Score + Drop>(
     ensures determined { Determined S.meaning (G.meaning grammar) pages.now places.old rows.old }
 {
     let mut reader = Reader::new(heap, grammar, score)?;
-    for row in rows.iter_mut() {
-        row.answer = Some(answer_call(&mut reader, pages, places, row.call));
-    }
+    run_on(&mut reader, pages, places, rows);
     Ok(())
 }
