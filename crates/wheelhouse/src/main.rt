@@ -2,52 +2,32 @@
 // plots the mark that is confirmed.
 #![tactic(auto)]
 
-ghost use Rattle.std.specs.Prelude.{IfOk};
-ghost use Rattle.wheelhouse.specs.Desks.{Ready};
-ghost use Rattle.wheelhouse.specs.Tasks.{Begins};
+ghost use Rattle.std.specs.Prelude.{Some};
+ghost use Rattle.anyhow.specs.Error.{HasMessage};
+ghost use Rattle.desk.specs.Desks.{Ready};
+ghost use Rattle.desk.specs.Words.{task_fault_words};
 
-mod answers;
-mod desk;
-mod reading;
-mod task;
 #[cfg(test)]
 mod tests;
-mod words;
 
-use crate::desk::{Desk, Reply, Trouble};
-use crate::task::{Task, task_of};
-use crate::words::{LEFT, Note};
 use anyhow::Context;
-use refusalwords::refused;
-use std::alloc::Global;
+use desk::{Desk, LEFT, Note, Reply, Task, TaskFault, begin, task_of};
 use std::io::ErrorKind;
 use std::process::ExitCode;
 use std::{env, fs};
 
-// A refusal in words needs the page, so `?` cannot make them.
-fn in_words(heap: Global, page: &[u8], trouble: Trouble) -> anyhow::Error {
-    match trouble {
-        Trouble::Memory(error) => anyhow::Error::from(error),
-        Trouble::Refused(refusal) => match refused(heap, page, refusal) {
-            Ok(words) => anyhow::Error::msg(words),
-            Err(error) => anyhow::Error::from(error),
-        },
-    }
-}
-
-// The desk with its first grant and its first look. A grant that is not named is the most, and is not refused.
-fn begin(heap: Global, task: &Task, page: &[u8]) -> Result<Desk, Trouble>
-    ensures ready { IfOk result Ready }
-    ensures begins { Begins task.now page.now result }
+// Arguments that are refused: behind a word that is no number stands why it is none.
+fn in_words(fault: TaskFault<'_>) -> anyhow::Error
+    ensures { HasMessage (Some (task_fault_words fault.entry)) result }
 {
-    let mut desk = Desk::open(heap, task.sheet, page, task.line)?;
-    let grant = task.grant.unwrap_or(desk.room());
-    desk.grant(grant)?;
-    desk.look();
-    Ok(desk)
+    if let TaskFault::Number { reason, .. } = &fault {
+        return anyhow::Error::msg(reason).context(fault);
+    }
+    anyhow::Error::from(fault)
 }
 
-// The end of the input leaves the line, as `q` does.
+// The end of the input leaves the line, as `q` does. It fails where standard input cannot be read, standard output cannot
+// be written, or memory is wanting.
 fn converse(rt: &HostRuntime, desk: &mut Desk) -> anyhow::Result<()>
     requires { Ready desk.old }
 {
@@ -71,12 +51,12 @@ fn converse(rt: &HostRuntime, desk: &mut Desk) -> anyhow::Result<()>
     Ok(())
 }
 
+// It fails, besides, where the page's file cannot be read, or the desk is not opened.
 fn walk(rt: &HostRuntime, task: &Task) -> anyhow::Result<()> {
     let page = fs::read(rt, task.page).context("cannot read the page")?;
-    let page = page.as_slice();
-    match begin(rt.alloc(), task, page) {
+    match begin(rt.alloc(), task, page.as_slice()) {
         Ok(mut desk) => converse(rt, &mut desk),
-        Err(trouble) => Err(in_words(rt.alloc(), page, trouble)),
+        Err(trouble) => Err(anyhow::Error::msg(trouble.told(rt.alloc(), page.as_slice())?)),
     }
 }
 
@@ -86,8 +66,7 @@ fn run(rt: &HostRuntime) -> anyhow::Result<()> {
         .iter()
         .map(|word| word.as_str())
         .collect(rt.alloc())?;
-    let task = task_of(words.as_slice())?;
-    walk(rt, &task)
+    walk(rt, &task_of(words.as_slice()).map_err(in_words)?)
 }
 
 fn main(rt: HostRuntime) -> anyhow::Result<ExitCode> {

@@ -1,12 +1,9 @@
 // Runs that the stored one does not show, as a crate has one: the most as a grant, an exhausted line and one that is spent for
 // good, and lines, pages, grants and arguments that are refused.
 ghost use Rattle.std.specs.Prelude.{IfOk, OnOk};
-ghost use Rattle.wheelhouse.specs.Desks.{Ready};
+ghost use Rattle.desk.specs.Desks.{Ready};
 
-use crate::answers::{Answer, read_answer};
-use crate::begin;
-use crate::desk::{Desk, Reply, Trouble};
-use crate::task::task_of;
+use desk::{Answer, Desk, Reply, Trouble, begin, read_answer, task_of};
 use reader::Refusal;
 use refusalwords::refused;
 use std::test::Fail;

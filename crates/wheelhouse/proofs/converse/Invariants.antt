@@ -1,4 +1,4 @@
-use Rattle.wheelhouse.specs.Desks.{Ready}
+use Rattle.desk.specs.Desks.{Ready}
 use Rattle.wheelhouse.proofs.converse.Given as goal
 
 abbrev pub invariant-loop-line : goal.invariant-loop-line

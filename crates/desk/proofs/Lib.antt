@@ -1,0 +1,5 @@
+pub mod Asked
+pub mod Begun
+pub mod Found
+pub mod Replies
+pub mod Rooms

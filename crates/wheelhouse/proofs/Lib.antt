@@ -1,4 +1,0 @@
-pub mod Begun
-pub mod Found
-pub mod Replies
-pub mod Rooms
