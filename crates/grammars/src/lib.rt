@@ -48,7 +48,7 @@ pub trait Grammar {
 }
 
 // Both grammars admit a text, and both allow an opening.
-#[derive(Clone, Copy)]
+#[derive(Clone, Copy, Drop)]
 pub struct Both<P, Q> {
     pub one: P,
     pub other: Q,
@@ -78,7 +78,7 @@ impl<P: Grammar, Q: Grammar> Grammar for Both<P, Q> {
 }
 
 // The first `cut` symbols by one grammar, and the rest by the other.
-#[derive(Clone, Copy)]
+#[derive(Clone, Copy, Drop)]
 pub struct Then<P, Q> {
     pub cut: u8,
     pub head: P,

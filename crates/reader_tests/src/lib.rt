@@ -8,6 +8,8 @@ mod on_the_sheet;
 #[cfg(test)]
 mod order;
 #[cfg(test)]
+mod owned;
+#[cfg(test)]
 mod refusals;
 #[cfg(test)]
 mod single_calls;
