@@ -1,8 +1,8 @@
 -- The worked readings, by computing. Assumes nothing.
 use Rattle.std.proofs.Common.{◌≡◌, ℕ, ◌≤◌, Contains, List, [], ◌∷◌, map, length, get_or, take, Some, Ok, Option, Result, refl, sym, ap, ◌∙◌, subst, ⊎_elim, true≢false, rules, arith}
 use Rattle.pages.specs.Reading.{read_page, read_lines, read_line, read_cells, read_cell, read_alternatives}
-use Rattle.scores.specs.Scores.{Laws, sum_meaning}
-use Rattle.grammars.specs.Grammars.{Lawful}
+use Rattle.scores.specs.Scores.{Meaning, Laws, sum_meaning, shares_meaning}
+use Rattle.grammars.specs.Grammars.{Sets, Lawful}
 use Rattle.grammars.specs.Dates.{longest, date_sets}
 use Rattle.grammars.specs.Days.{date_shorter, admitted_allowed}
 use Rattle.reader.specs.Views.{unloaded}
@@ -18,12 +18,22 @@ use Rattle.runs.specs.declared.rows.Row.{Row}
 use Rattle.runs.specs.Determined.{AlikeReport, AlikeAnswer, AlikeRows}
 use Rattle.std.specs.Fmt.{digits}
 use Rattle.lists.specs.Lists.{header, row, rows}
-use Rattle.worked.specs.Worked.{page, line, first_chain, second_chain, lowest_chain, places, with_answers, bare_answer, bare, ComesOut, WorkedReadings}
+use Rattle.worked.specs.Worked.{page, line, first_chain, second_chain, lowest_chain, places, with_answers, bare_answer, bare, everything, stops, ComesOut, DatesComeOut, PairsComeOut, WorkedReadings}
 use Rattle.worked.proofs.Played.{Play, play, every_run, one_run}
 
--- the laws of Sum and of Date
+-- the laws of the two scores, of Date, and of what admits and allows everything
 sum_laws : Laws sum_meaning
 sum_laws = search rules
+
+shares_laws : Laws shares_meaning
+shares_laws = search rules
+
+everything_lawful : Lawful everything
+everything_lawful = record {
+  empty = refl;
+  shorter = λ s n h. refl;
+  begun = λ s n h. refl;
+}
 
 date_lawful : Lawful date_sets
 date_lawful = record {
@@ -52,15 +62,23 @@ bare_rows (x ∷ xs) (y ∷ ys) alike =
     let rest = bare_rows xs ys alike.2 in
     λ i. first i ∷ rest i
 
--- a play that is computed is what every run comes to
-comes_out : (calls : List Call) (answers : List (Result Answer Refusal)) (left : List ℕ) → play sum_meaning date_sets page unloaded places calls ≡ record { answers = answers; left = left }
-    → map bare (with_answers calls answers) ≡ with_answers calls answers → ComesOut calls answers left
-comes_out calls answers left e told = record {
-  there_is = λ rows same. subst (λ (p : Play). Runs sum_meaning date_sets page places rows (with_answers calls p.answers) p.left) e (one_run sum_meaning date_sets page sum_laws date_lawful places rows calls same);
+-- a play that is computed is what every run comes to, under any score and any grammar that keep their laws
+comes_out : (s : Meaning) (g : Sets) → Laws s → Lawful g → (pages lent : List ℕ) (calls : List Call) (answers : List (Result Answer Refusal)) (left : List ℕ)
+    → play s g pages unloaded lent calls ≡ record { answers = answers; left = left } → map bare (with_answers calls answers) ≡ with_answers calls answers → ComesOut s g pages lent calls answers left
+comes_out s g laws lawful pages lent calls answers left e told = record {
+  there_is = λ rows same. subst (λ (p : Play). Runs s g pages lent rows (with_answers calls p.answers) p.left) e (one_run s g pages laws lawful lent rows calls same);
   every = λ rows rows' left' same r.
-      let came = subst (λ (p : Play). AlikeRows rows' (with_answers calls p.answers) × (left' ≡ p.left)) e (every_run sum_meaning date_sets page sum_laws date_lawful places rows rows' left' calls same r) in
+      let came = subst (λ (p : Play). AlikeRows rows' (with_answers calls p.answers) × (left' ≡ p.left)) e (every_run s g pages laws lawful lent rows rows' left' calls same r) in
       (bare_rows rows' (with_answers calls answers) came.0 ∙ told, came.1);
 }
+
+dates_come_out : (calls : List Call) (answers : List (Result Answer Refusal)) (left : List ℕ) → play sum_meaning date_sets page unloaded places calls ≡ record { answers = answers; left = left }
+    → map bare (with_answers calls answers) ≡ with_answers calls answers → DatesComeOut calls answers left
+dates_come_out = comes_out sum_meaning date_sets sum_laws date_lawful page places
+
+pairs_come_out : (s : Meaning) → Laws s → (pages : List ℕ) (calls : List Call) (answers : List (Result Answer Refusal)) (left : List ℕ)
+    → play s everything pages unloaded (stops 10) calls ≡ record { answers = answers; left = left } → map bare (with_answers calls answers) ≡ with_answers calls answers → PairsComeOut s pages calls answers left
+pairs_come_out s laws pages = comes_out s everything laws everything_lawful pages (stops 10)
 
 -- the six live chains; the first date stands third among them
 abbrev next_to_lowest : Chain
@@ -117,15 +135,20 @@ worked_readings = record {
   line_ranked = refl;
   first_text = refl;
   first_total = refl;
-  granted_170 = comes_out _ _ _ refl refl;
-  watched_170 = comes_out _ _ _ refl refl;
-  granted_6 = comes_out _ _ _ refl refl;
-  watched_6 = comes_out _ _ _ refl refl;
-  granted_2 = comes_out _ _ _ refl refl;
-  granted_2_and_1 = comes_out _ _ _ refl refl;
-  loaded_again = comes_out _ _ _ refl refl;
-  parts_of_places = comes_out _ _ _ refl refl;
-  refused = comes_out _ _ _ refl refl;
+  everything_lawful = everything_lawful;
+  pairs_read = refl;
+  pairs_in_order = pairs_come_out sum_meaning sum_laws _ _ _ _ refl refl;
+  shares_read = refl;
+  shares_in_order = pairs_come_out shares_meaning shares_laws _ _ _ _ refl refl;
+  granted_170 = dates_come_out _ _ _ refl refl;
+  watched_170 = dates_come_out _ _ _ refl refl;
+  granted_6 = dates_come_out _ _ _ refl refl;
+  watched_6 = dates_come_out _ _ _ refl refl;
+  granted_2 = dates_come_out _ _ _ refl refl;
+  granted_2_and_1 = dates_come_out _ _ _ refl refl;
+  loaded_again = dates_come_out _ _ _ refl refl;
+  parts_of_places = dates_come_out _ _ _ refl refl;
+  refused = dates_come_out _ _ _ refl refl;
   second_before_first = λ x. ⊎_elim (λ (e : first_chain ≡ second_chain). let z : ◌≡◌ {A = ℕ} 0 1 = ap (λ c. get_or c 7 0) e in omega (arith, z)) (λ e. true≢false (sym e)) ((x.best_unseen line second_chain refl refl).2 first_chain (first_chain_of, refl) (no_member first_chain));
   no_date = λ x. true≢false (sym (x.best_unseen line _ refl refl).0.1);
   date_again = λ x. (x.best_unseen line first_chain refl refl).1 (Contains-first first_chain []);

@@ -7,10 +7,11 @@ use Rattle.pages.specs.declared.faults.PageFault.TheVariants as page_fault
 use Rattle.pages.specs.declared.lines.Alternative.{Alternative}
 use Rattle.pages.specs.Shape.{Alternatives, Cells}
 use Rattle.pages.specs.Reading.{read_page}
-use Rattle.scores.specs.Scores.{sum_meaning, shares_meaning}
+use Rattle.scores.specs.Scores.{Meaning, sum_meaning, shares_meaning}
 use Rattle.positions.specs.declared.angles.Axis.TheVariants.{Latitude, Longitude}
 use Rattle.positions.specs.Angles.{angle_of}
 use Rattle.positions.specs.Positions.{reading}
+use Rattle.grammars.specs.Grammars as grammars
 use Rattle.grammars.specs.Grammars.{Sets}
 use Rattle.grammars.specs.Dates.{date_sets}
 use Rattle.grammars.specs.Angles.{angle_sets}
@@ -50,6 +51,21 @@ two_and_three = (alt 49 0 ∷ alt 50 2 ∷ []) ∷ (alt 49 0 ∷ alt 50 1 ∷ al
 -- Two cells, 1 at 0 or 2 at 10, and 1 at 0 or 2 at 20.
 abbrev pub tenth_and_fifth : Cells
 tenth_and_fifth = (alt 49 0 ∷ alt 50 10 ∷ []) ∷ (alt 49 0 ∷ alt 50 20 ∷ []) ∷ []
+
+-- the pages of one line of these two cells
+abbrev pub page_of_two_cells : List ℕ
+page_of_two_cells =
+    0x01 ∷ 0x02
+    ∷ 0x02 ∷ 0x31 ∷ 0x00 ∷ 0x00 ∷ 0x32 ∷ 0x00 ∷ 0x03
+    ∷ 0x02 ∷ 0x31 ∷ 0x00 ∷ 0x00 ∷ 0x32 ∷ 0x00 ∷ 0x03
+    ∷ []
+
+abbrev pub page_of_tenth_and_fifth : List ℕ
+page_of_tenth_and_fifth =
+    0x01 ∷ 0x02
+    ∷ 0x02 ∷ 0x31 ∷ 0x00 ∷ 0x00 ∷ 0x32 ∷ 0x00 ∷ 0x0A
+    ∷ 0x02 ∷ 0x31 ∷ 0x00 ∷ 0x00 ∷ 0x32 ∷ 0x00 ∷ 0x14
+    ∷ []
 
 -- Three cells, 3 at 0, 9 at 0 or 0 at 1, and 0 at 0 or 1 at 1.
 abbrev pub thirty_nine_or_thirty : Cells
@@ -92,22 +108,28 @@ second_chain = 1 ∷ 0 ∷ 0 ∷ 0 ∷ 0 ∷ 0 ∷ 0 ∷ 1 ∷ []
 abbrev pub lowest_chain : Chain
 lowest_chain = replicate 8 0
 
--- The calls: a line of the page, line 0 of it, a line of its first 42 bytes, and a next into a part of the forty bytes that are
--- lent for places, or into the n-th eight of them. In each of the forty is a full stop.
+-- The calls: a line of so many bytes, of the page of one date and of its first 42 bytes; a next into a part of the bytes that are
+-- lent for places, or into the n-th eight or the n-th two of them. In each of those bytes is a full stop.
+abbrev pub load_of : ℕ → ℕ → Call
+load_of bytes n = call.Load (record { start = 0; length = bytes }) n
+
 abbrev pub load_number : ℕ → Call
-load_number n = call.Load (record { start = 0; length = length page }) n
+load_number n = load_of (length page) n
 
 abbrev pub load_line : Call
 load_line = load_number 0
 
 abbrev pub load_cut : ℕ → Call
-load_cut n = call.Load (record { start = 0; length = 42 }) n
+load_cut n = load_of 42 n
 
 abbrev pub next_at : ℕ → ℕ → Call
 next_at start length = call.Next (record { start = start; length = length })
 
 abbrev pub next_into : ℕ → Call
 next_into n = next_at (n * 8) 8
+
+abbrev pub next_pair : ℕ → Call
+next_pair n = next_at (n * 2) 2
 
 abbrev pub stops : ℕ → List ℕ
 stops n = replicate n 46
@@ -163,12 +185,20 @@ bare_answer None = None
 abbrev pub bare : Row → Row
 bare row = record { call = row.call; answer = bare_answer row.answer }
 
--- EVERY run of the calls over the page with Date and Sum, whatever stood in its rows, has these answers and leaves these
--- places; and there is such a run.
-pub record ComesOut (calls : List Call) (answers : List (Result Answer Refusal)) (left : List ℕ) : Type 0 where
-  pub there_is : (rows : List Row) → map (λ row. row.call) rows ≡ calls → Runs sum_meaning date_sets page places rows (with_answers calls answers) left
-  pub every : (rows rows' : List Row) (left' : List ℕ) → map (λ row. row.call) rows ≡ calls → Runs sum_meaning date_sets page places rows rows' left'
+-- Of a score, a grammar, and bytes that are lent for pages and for places: EVERY run of the calls, whatever stood in its rows, has
+-- these answers and leaves these places; and there is such a run.
+pub record ComesOut (s : Meaning) (g : Sets) (pages lent : List ℕ) (calls : List Call) (answers : List (Result Answer Refusal)) (left : List ℕ) : Type 0 where
+  pub there_is : (rows : List Row) → map (λ row. row.call) rows ≡ calls → Runs s g pages lent rows (with_answers calls answers) left
+  pub every : (rows rows' : List Row) (left' : List ℕ) → map (λ row. row.call) rows ≡ calls → Runs s g pages lent rows rows' left'
       → (map bare rows' ≡ with_answers calls answers) × (left' ≡ left)
+
+-- over the page of one date, under Date and Sum, with forty full stops for places
+abbrev pub DatesComeOut : List Call → List (Result Answer Refusal) → List ℕ → Type 0
+DatesComeOut calls answers left = ComesOut sum_meaning date_sets page places calls answers left
+
+-- over a page of one line of two cells, where everything is admitted and allowed, with ten full stops for places
+abbrev pub PairsComeOut : Meaning → List ℕ → List Call → List (Result Answer Refusal) → List ℕ → Type 0
+PairsComeOut s pages calls answers left = ComesOut s everything pages (stops 10) calls answers left
 
 -- a history: the line was loaded, and so many were granted
 abbrev pub begun : ℕ → List Moment
@@ -194,6 +224,13 @@ abbrev pub watched_answers : ℕ → List (Result Answer Refusal)
 watched_answers n =
     loaded ∷ granted ∷ next (Found 8) ∷ told n 3 1 ∷ next (Found 8) ∷ told n 4 2 ∷ next (Found 8) ∷ told n 5 3
     ∷ next (Found 8) ∷ told n 6 4 ∷ next Exhausted ∷ told n 6 4 ∷ []
+
+-- a grant of four, and five nexts, over a page of sixteen bytes; every next but the last finds a reading of two cells
+abbrev pub course_of_pairs : List Call
+course_of_pairs = load_of 16 0 ∷ call.Grant 4 ∷ next_pair 0 ∷ next_pair 1 ∷ next_pair 2 ∷ next_pair 3 ∷ next_pair 4 ∷ []
+
+abbrev pub four_found : List (Result Answer Refusal)
+four_found = loaded ∷ granted ∷ next (Found 2) ∷ next (Found 2) ∷ next (Found 2) ∷ next (Found 2) ∷ next Exhausted ∷ []
 
 -- THE WORKED READINGS
 pub record WorkedReadings : Type 0 where
@@ -226,26 +263,33 @@ pub record WorkedReadings : Type 0 where
       ≡ codes "30022023" ∷ codes "38022023" ∷ codes "20022023" ∷ codes "20022024" ∷ codes "28022023" ∷ codes "28022024" ∷ []
   pub first_text : text line first_chain ≡ codes "20022023"
   pub first_total : total sum_meaning line first_chain ≡ 5
+  -- all is admitted and allowed: a grammar too. The two cells in a run from the bytes of their page: 11, 12, 21 and 22, in this order
+  pub everything_lawful : grammars.Lawful everything
+  pub pairs_read : read_page page_of_two_cells ≡ Ok (two_cells ∷ [])
+  pub pairs_in_order : PairsComeOut sum_meaning page_of_two_cells course_of_pairs four_found (codes "11122122" ++ stops 2)
+  -- and the two of the tenth and the fifth under Shares: 11, 21, 12 and 22
+  pub shares_read : read_page page_of_tenth_and_fifth ≡ Ok (tenth_and_fifth ∷ [])
+  pub shares_in_order : PairsComeOut shares_meaning page_of_tenth_and_fifth course_of_pairs four_found (codes "11211222" ++ stops 2)
   -- with a grant of 170 the first next looks at three chains, the next three at one each, and then none is left
-  pub granted_170 : ComesOut (course 170) (course_answers 170) readings
-  pub watched_170 : ComesOut (watched 170) (watched_answers 170) readings
+  pub granted_170 : DatesComeOut (course 170) (course_answers 170) readings
+  pub watched_170 : DatesComeOut (watched 170) (watched_answers 170) readings
   -- six are enough to see that none is left
-  pub granted_6 : ComesOut (course 6) (course_answers 6) readings
-  pub watched_6 : ComesOut (watched 6) (watched_answers 6) readings
+  pub granted_6 : DatesComeOut (course 6) (course_answers 6) readings
+  pub watched_6 : DatesComeOut (watched 6) (watched_answers 6) readings
   -- two are spent before the first reading
-  pub granted_2 : ComesOut (load_line ∷ call.Grant 2 ∷ next_into 0 ∷ call.Report ∷ []) (loaded ∷ granted ∷ next Spent ∷ told 2 2 0 ∷ []) places
+  pub granted_2 : DatesComeOut (load_line ∷ call.Grant 2 ∷ next_into 0 ∷ call.Report ∷ []) (loaded ∷ granted ∷ next Spent ∷ told 2 2 0 ∷ []) places
   -- grants add up, and a next goes on where the last one stopped
-  pub granted_2_and_1 : ComesOut (load_line ∷ call.Grant 2 ∷ next_into 0 ∷ call.Grant 1 ∷ next_into 0 ∷ next_into 1 ∷ call.Report ∷ [])
+  pub granted_2_and_1 : DatesComeOut (load_line ∷ call.Grant 2 ∷ next_into 0 ∷ call.Grant 1 ∷ next_into 0 ∷ next_into 1 ∷ call.Report ∷ [])
       (loaded ∷ granted ∷ next Spent ∷ granted ∷ next (Found 8) ∷ next Spent ∷ told 3 3 1 ∷ []) (codes "20022023" ++ stops 32)
   -- a load begins anew
-  pub loaded_again : ComesOut (load_line ∷ call.Grant 4 ∷ next_into 0 ∷ next_into 1 ∷ load_line ∷ call.Report ∷ next_into 2 ∷ call.Grant 3 ∷ next_into 2 ∷ call.Report ∷ [])
+  pub loaded_again : DatesComeOut (load_line ∷ call.Grant 4 ∷ next_into 0 ∷ next_into 1 ∷ load_line ∷ call.Report ∷ next_into 2 ∷ call.Grant 3 ∷ next_into 2 ∷ call.Report ∷ [])
       (loaded ∷ granted ∷ next (Found 8) ∷ next (Found 8) ∷ loaded ∷ told 0 0 0 ∷ next Spent ∷ granted ∷ next (Found 8) ∷ told 3 3 1 ∷ [])
       (codes "20022023" ++ (codes "20022024" ++ (codes "20022023" ++ stops 16)))
   -- a place longer than the line's cells keeps its rest, and so do the bytes before it; one is cut off at the bytes' end
-  pub parts_of_places : ComesOut (load_line ∷ call.Grant 4 ∷ next_at 3 20 ∷ next_at 30 100 ∷ []) (loaded ∷ granted ∷ next (Found 8) ∷ next (Found 8) ∷ [])
+  pub parts_of_places : DatesComeOut (load_line ∷ call.Grant 4 ∷ next_at 3 20 ∷ next_at 30 100 ∷ []) (loaded ∷ granted ∷ next (Found 8) ∷ next (Found 8) ∷ [])
       (stops 3 ++ (codes "20022023" ++ (stops 19 ++ (codes "20022024" ++ stops 2))))
   -- what is refused, by the first condition that fails; nothing is changed by it
-  pub refused : ComesOut
+  pub refused : DatesComeOut
       (call.Grant 0 ∷ next_at 0 0 ∷ call.Report ∷ load_cut 1 ∷ load_number 1 ∷ load_line ∷ load_cut 0 ∷ call.Grant 0 ∷ call.Grant 512 ∷ call.Grant 511 ∷ call.Grant 1
       ∷ next_at 0 7 ∷ next_at 33 100 ∷ next_at 41 8 ∷ call.Report ∷ [])
       (Err refusal.NoLine ∷ Err refusal.NoLine ∷ told_of 0 0 0 0 ∷ Err cut_short ∷ Err refusal.LineNumber ∷ loaded ∷ Err cut_short ∷ Err refusal.Grant ∷ Err refusal.Grant ∷ granted ∷ Err refusal.Grant
