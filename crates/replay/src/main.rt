@@ -2,17 +2,12 @@
 // arguments say what the readings are to be and how they are scored.
 #![tactic(auto)]
 
-mod play;
-mod script;
-mod setting;
 #[cfg(test)]
 mod tests;
-mod words;
 
-use crate::play::Play;
-use crate::script::{Command, read_command};
-use crate::setting::setting_of;
 use anyhow::Context;
+use plays::Play;
+use scripts::{Command, read_command, setting_of};
 use settings::Setting;
 use std::env;
 use std::fs::File;

@@ -1,9 +1,12 @@
-// Tests of what a stored run cannot show, since a crate has one: other settings, and scripts and arguments that are refused.
+// Tests of what a stored run cannot show, since a crate has one: other settings, scripts and arguments that are refused,
+// and a page that cannot be read.
+ghost use Rattle.std.specs.Prelude.{⊤};
 
-use crate::play::Play;
-use crate::script::{Command, CommandFault, read_command};
-use crate::setting::setting_of;
+use plays::{LoadFault, Play, Source};
+use scripts::{Command, CommandFault, read_command, setting_of};
 use settings::{Scoring, Setting, Wanted};
+use std::io;
+use std::io::{ErrorKind, Read};
 use std::test::Fail;
 
 // Eight cells: 0; 1 at 0 or 2 at 55; 0; 1 at 0 or 2 at 30; 2; 0; 0; 0 at 0 or 1 at 30. Every chain of them is a date.
@@ -127,5 +130,63 @@ fn arguments_in_another_order_are_refused(rt: HostRuntime) -> Result<(), Fail> {
     assert!(rt; setting_of(&["shares", "shares"]).is_err());
     assert!(rt; setting_of(&["sheet", SOUTHWEST]).is_err());
     assert!(rt; setting_of(&["sheet", NORTHEAST, SOUTHWEST]).is_err());
+    Ok(())
+}
+
+// A page that comes in two pieces, between which one read fails.
+#[derive(Drop)]
+struct Faltering<'a> {
+    front: &'a [u8],
+    back: &'a [u8],
+    reads: usize,
+    fault: ErrorKind,
+}
+
+impl Read for Faltering<'_> {
+    fn read(&mut self, buffer: &mut [u8]) -> io::Result<usize> {
+        self.reads = self.reads.saturating_add(1);
+        match self.reads {
+            1 => self.front.read(buffer),
+            2 => Err(self.fault.into()),
+            _ => self.back.read(buffer),
+        }
+    }
+}
+
+impl Source for Faltering<'_> {
+    ghost may_fail = { λ _ _. ⊤ };
+
+    fn give(&mut self, buffer: &mut [u8]) -> io::Result<usize> {
+        self.read(buffer)
+    }
+}
+
+fn page_in_two(fault: ErrorKind) -> Faltering<'static> {
+    let (front, back) = ORDER_PAGE.split_at(9);
+    Faltering {
+        front,
+        back,
+        reads: 0,
+        fault,
+    }
+}
+
+// A read that failed is told with its error, and leaves nothing in the play: what is loaded next is the page alone.
+#[test]
+fn a_failed_read_leaves_the_play(rt: HostRuntime) -> Result<(), Fail> {
+    let mut play = Play::new(rt.alloc());
+    let failed = play.load("load page 0", &mut page_in_two(ErrorKind::TimedOut), 0);
+    let Err(LoadFault::Reading(error)) = failed else {
+        return Err(Fail::new("a failed read is no load"));
+    };
+    assert!(rt; error.kind() == ErrorKind::TimedOut);
+    play.load("load page 0", &mut page_in_two(ErrorKind::Interrupted), 0)?;
+    play.grant("grant 5", 5)?;
+    play.next("next")?;
+    play.run(rt.alloc(), setting_of(&[])?)?;
+    assert_eq!(rt;
+        play.lines(rt.alloc())?.as_str(),
+        "load page 0: loaded\ngrant 5: granted\nnext: found 01012000\n"
+    );
     Ok(())
 }

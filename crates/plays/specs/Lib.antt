@@ -1,0 +1,3 @@
+pub mod Words
+pub mod Sources
+pub mod Plays

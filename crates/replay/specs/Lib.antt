@@ -1,4 +1,0 @@
-pub mod Words
-pub mod Scripts
-pub mod Settings
-pub mod Plays
