@@ -18,7 +18,7 @@ use Rattle.runs.specs.declared.rows.Row.{Row}
 use Rattle.runs.specs.Determined.{AlikeReport, AlikeAnswer, AlikeRows}
 use Rattle.std.specs.Fmt.{digits}
 use Rattle.lists.specs.Lists.{header, row, rows}
-use Rattle.worked.specs.Worked.{page, line, first_chain, second_chain, lowest_chain, places, with_answers, bare_answer, bare, everything, stops, ComesOut, DatesComeOut, PairsComeOut, WorkedReadings}
+use Rattle.worked.specs.Worked.{page, line, first_chain, second_chain, lowest_chain, places, with_answers, bare_answer, bare, everything, stops, course_of_pairs, four_found, ComesOut, DatesComeOut, PairsComeOut, WorkedReadings}
 use Rattle.worked.proofs.Played.{Play, play, every_run, one_run}
 
 -- the laws of the two scores, of Date, and of what admits and allows everything
@@ -72,13 +72,14 @@ comes_out s g laws lawful pages lent calls answers left e told = record {
       (bare_rows rows' (with_answers calls answers) came.0 ∙ told, came.1);
 }
 
-dates_come_out : (calls : List Call) (answers : List (Result Answer Refusal)) (left : List ℕ) → play sum_meaning date_sets page unloaded places calls ≡ record { answers = answers; left = left }
+dates_come_out : (calls : List Call) (answers : List (Result Answer Refusal)) (left : List ℕ)
+    → play sum_meaning date_sets page unloaded places calls ≡ record { answers = answers; left = left }
     → map bare (with_answers calls answers) ≡ with_answers calls answers → DatesComeOut calls answers left
 dates_come_out = comes_out sum_meaning date_sets sum_laws date_lawful page places
 
-pairs_come_out : (s : Meaning) → Laws s → (pages : List ℕ) (calls : List Call) (answers : List (Result Answer Refusal)) (left : List ℕ)
-    → play s everything pages unloaded (stops 10) calls ≡ record { answers = answers; left = left } → map bare (with_answers calls answers) ≡ with_answers calls answers → PairsComeOut s pages calls answers left
-pairs_come_out s laws pages = comes_out s everything laws everything_lawful pages (stops 10)
+pairs_come_out : (s : Meaning) → Laws s → (pages left : List ℕ)
+    → play s everything pages unloaded (stops 10) course_of_pairs ≡ record { answers = four_found; left = left } → PairsComeOut s pages left
+pairs_come_out s laws pages left e = comes_out s everything laws everything_lawful pages (stops 10) course_of_pairs four_found left e refl
 
 -- the six live chains; the first date stands third among them
 abbrev next_to_lowest : Chain
@@ -137,9 +138,9 @@ worked_readings = record {
   first_total = refl;
   everything_lawful = everything_lawful;
   pairs_read = refl;
-  pairs_in_order = pairs_come_out sum_meaning sum_laws _ _ _ _ refl refl;
+  pairs_in_order = pairs_come_out sum_meaning sum_laws _ _ refl;
   shares_read = refl;
-  shares_in_order = pairs_come_out shares_meaning shares_laws _ _ _ _ refl refl;
+  shares_in_order = pairs_come_out shares_meaning shares_laws _ _ refl;
   granted_170 = dates_come_out _ _ _ refl refl;
   watched_170 = dates_come_out _ _ _ refl refl;
   granted_6 = dates_come_out _ _ _ refl refl;

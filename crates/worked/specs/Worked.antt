@@ -108,8 +108,9 @@ second_chain = 1 ∷ 0 ∷ 0 ∷ 0 ∷ 0 ∷ 0 ∷ 0 ∷ 1 ∷ []
 abbrev pub lowest_chain : Chain
 lowest_chain = replicate 8 0
 
--- The calls: a line of so many bytes, of the page of one date and of its first 42 bytes; a next into a part of the bytes that are
--- lent for places, or into the n-th eight or the n-th two of them. In each of those bytes is a full stop.
+-- The calls: a line of the page that so many bytes are, of the page of one date, and of its first
+-- 42 bytes; a next into a part of the bytes that are lent for places, or into the n-th eight or the
+-- n-th two of them. In each of those bytes is a full stop.
 abbrev pub load_of : ℕ → ℕ → Call
 load_of bytes n = call.Load (record { start = 0; length = bytes }) n
 
@@ -185,20 +186,34 @@ bare_answer None = None
 abbrev pub bare : Row → Row
 bare row = record { call = row.call; answer = bare_answer row.answer }
 
--- Of a score, a grammar, and bytes that are lent for pages and for places: EVERY run of the calls, whatever stood in its rows, has
--- these answers and leaves these places; and there is such a run.
-pub record ComesOut (s : Meaning) (g : Sets) (pages lent : List ℕ) (calls : List Call) (answers : List (Result Answer Refusal)) (left : List ℕ) : Type 0 where
-  pub there_is : (rows : List Row) → map (λ row. row.call) rows ≡ calls → Runs s g pages lent rows (with_answers calls answers) left
-  pub every : (rows rows' : List Row) (left' : List ℕ) → map (λ row. row.call) rows ≡ calls → Runs s g pages lent rows rows' left'
+-- Of a score, a grammar, and bytes that are lent for pages and for places: EVERY run of the calls,
+-- whatever stood in its rows, has these answers and leaves these places; and there is such a run.
+pub record ComesOut (s : Meaning) (g : Sets) (pages lent : List ℕ)
+    (calls : List Call) (answers : List (Result Answer Refusal)) (left : List ℕ) : Type 0 where
+  pub there_is : (rows : List Row) → map (λ row. row.call) rows ≡ calls
+      → Runs s g pages lent rows (with_answers calls answers) left
+  pub every : (rows rows' : List Row) (left' : List ℕ) → map (λ row. row.call) rows ≡ calls
+      → Runs s g pages lent rows rows' left'
       → (map bare rows' ≡ with_answers calls answers) × (left' ≡ left)
 
 -- over the page of one date, under Date and Sum, with forty full stops for places
 abbrev pub DatesComeOut : List Call → List (Result Answer Refusal) → List ℕ → Type 0
 DatesComeOut calls answers left = ComesOut sum_meaning date_sets page places calls answers left
 
--- over a page of one line of two cells, where everything is admitted and allowed, with ten full stops for places
-abbrev pub PairsComeOut : Meaning → List ℕ → List Call → List (Result Answer Refusal) → List ℕ → Type 0
-PairsComeOut s pages calls answers left = ComesOut s everything pages (stops 10) calls answers left
+-- over a page of one line of two cells, where everything is admitted and allowed, with ten full
+-- stops for places: a grant of four, and five nexts; every next but the last finds a reading
+abbrev pub course_of_pairs : List Call
+course_of_pairs =
+    load_of 16 0 ∷ call.Grant 4
+    ∷ next_pair 0 ∷ next_pair 1 ∷ next_pair 2 ∷ next_pair 3 ∷ next_pair 4 ∷ []
+
+abbrev pub four_found : List (Result Answer Refusal)
+four_found =
+    loaded ∷ granted ∷ next (Found 2) ∷ next (Found 2) ∷ next (Found 2) ∷ next (Found 2)
+    ∷ next Exhausted ∷ []
+
+abbrev pub PairsComeOut : Meaning → List ℕ → List ℕ → Type 0
+PairsComeOut s pages left = ComesOut s everything pages (stops 10) course_of_pairs four_found left
 
 -- a history: the line was loaded, and so many were granted
 abbrev pub begun : ℕ → List Moment
@@ -224,13 +239,6 @@ abbrev pub watched_answers : ℕ → List (Result Answer Refusal)
 watched_answers n =
     loaded ∷ granted ∷ next (Found 8) ∷ told n 3 1 ∷ next (Found 8) ∷ told n 4 2 ∷ next (Found 8) ∷ told n 5 3
     ∷ next (Found 8) ∷ told n 6 4 ∷ next Exhausted ∷ told n 6 4 ∷ []
-
--- a grant of four, and five nexts, over a page of sixteen bytes; every next but the last finds a reading of two cells
-abbrev pub course_of_pairs : List Call
-course_of_pairs = load_of 16 0 ∷ call.Grant 4 ∷ next_pair 0 ∷ next_pair 1 ∷ next_pair 2 ∷ next_pair 3 ∷ next_pair 4 ∷ []
-
-abbrev pub four_found : List (Result Answer Refusal)
-four_found = loaded ∷ granted ∷ next (Found 2) ∷ next (Found 2) ∷ next (Found 2) ∷ next (Found 2) ∷ next Exhausted ∷ []
 
 -- THE WORKED READINGS
 pub record WorkedReadings : Type 0 where
@@ -263,13 +271,15 @@ pub record WorkedReadings : Type 0 where
       ≡ codes "30022023" ∷ codes "38022023" ∷ codes "20022023" ∷ codes "20022024" ∷ codes "28022023" ∷ codes "28022024" ∷ []
   pub first_text : text line first_chain ≡ codes "20022023"
   pub first_total : total sum_meaning line first_chain ≡ 5
-  -- all is admitted and allowed: a grammar too. The two cells in a run from the bytes of their page: 11, 12, 21 and 22, in this order
+  -- the two cells in a run from the bytes of their page: 11, 12, 21 and 22, in this order. What
+  -- admits and allows everything is a grammar too
   pub everything_lawful : grammars.Lawful everything
   pub pairs_read : read_page page_of_two_cells ≡ Ok (two_cells ∷ [])
-  pub pairs_in_order : PairsComeOut sum_meaning page_of_two_cells course_of_pairs four_found (codes "11122122" ++ stops 2)
-  -- and the two of the tenth and the fifth under Shares: 11, 21, 12 and 22
+  pub pairs_in_order : PairsComeOut sum_meaning page_of_two_cells (codes "11122122" ++ stops 2)
+  -- and the cells of the tenth and the fifth under Shares: 11, 21, 12 and 22
   pub shares_read : read_page page_of_tenth_and_fifth ≡ Ok (tenth_and_fifth ∷ [])
-  pub shares_in_order : PairsComeOut shares_meaning page_of_tenth_and_fifth course_of_pairs four_found (codes "11211222" ++ stops 2)
+  pub shares_in_order :
+      PairsComeOut shares_meaning page_of_tenth_and_fifth (codes "11211222" ++ stops 2)
   -- with a grant of 170 the first next looks at three chains, the next three at one each, and then none is left
   pub granted_170 : DatesComeOut (course 170) (course_answers 170) readings
   pub watched_170 : DatesComeOut (watched 170) (watched_answers 170) readings
