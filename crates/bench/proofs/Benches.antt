@@ -134,7 +134,7 @@ lower_in n xs ys h =
 module _ {S : Type 0} (s : Meaning) (l : Cells) where
   -- of places with their totals, one whose chain stands before stands before
   before_places : (y x : Place S) → y.grade.total ≡ total s l (chain_in l y.ranks.0) → x.grade.total ≡ total s l (chain_in l x.ranks.0)
-      → before s l (chain_in l y.ranks.0) (chain_in l x.ranks.0) ≡ true → Before s.no_worse y x
+      → before s l (chain_in l y.ranks.0) (chain_in l x.ranks.0) ≡ true → Before s y x
   before_places y x ey ex h =
       let a = total s l (chain_in l y.ranks.0) in
       let b = total s l (chain_in l x.ranks.0) in
@@ -143,7 +143,7 @@ module _ {S : Type 0} (s : Meaning) (l : Cells) where
       let back : s.no_worse x.grade.total y.grade.total ≡ s.no_worse b a = (λ i. s.no_worse (ex i) (ey i)) in
       ⊎_elim (λ e. inl (one, back ∙ e)) (λ e. inr (one, back ∙ e.0, lower_in (length l) (ranks_of y.ranks.0) (ranks_of x.ranks.0) (lower_at _ _ e.1))) q.1
 
-  unbeaten_in : (x : Place S) → x.grade.total ≡ total s l (chain_in l x.ranks.0) → (ys : List (Place S)) → First s.no_worse x ys → AllByRecursion (Placed s l) ys
+  unbeaten_in : (x : Place S) → x.grade.total ≡ total s l (chain_in l x.ranks.0) → (ys : List (Place S)) → First s x ys → AllByRecursion (Placed s l) ys
       → (d : Chain) → Contains (map (chain_at l) ys) d → before s l d (chain_in l x.ranks.0) ≡ false
   unbeaten_in x ex [] first all d (k, w, e) = absurd (omega arith)
   unbeaten_in x ex (y ∷ ys) first all d (zero, w, e) =
@@ -157,7 +157,7 @@ module _ {S : Type 0} {m : Ghosts S} (s : Meaning) (l : Cells) (was : Bench S m)
   placed_first = (subst (AllByRecursion (Placed s l)) begins h.places).0
 
   -- it stands before all others, and those behind it are left
-  pub taken_first : First s.no_worse x (heap_items was.places) → Taken s l (on_bench l was) (chain_in l x.ranks.0) (drop 1 (on_bench l was))
+  pub taken_first : First s x (heap_items was.places) → Taken s l (on_bench l was) (chain_in l x.ranks.0) (drop 1 (on_bench l was))
   taken_first first =
       let all = begins_with l (heap_items was.places) x begins in
       record {
@@ -167,7 +167,7 @@ module _ {S : Type 0} {m : Ghosts S} (s : Meaning) (l : Cells) (was : Bench S m)
       }
 
   -- it is looked at once its children stand in its place
-  pub seen_first : (allows : Texts) (is : Bench S m) (t : List ℕ) → t ≡ text l (chain_in l x.ranks.0) ++ replicate (24 - length l) 0 → First s.no_worse x (heap_items was.places)
+  pub seen_first : (allows : Texts) (is : Bench S m) (t : List ℕ) → t ≡ text l (chain_in l x.ranks.0) ++ replicate (24 - length l) 0 → First s x (heap_items was.places)
       → Holds s l is (drop 1 (on_bench l was) ++ children allows l (chain_in l x.ranks.0)) → Seen s allows l was is (record { text = t; total = x.grade.total })
   seen_first allows is t reads first holds = record {
     chain = chain_in l x.ranks.0;

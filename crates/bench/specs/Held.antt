@@ -52,7 +52,7 @@ Placed s l p = ChainOf l (chain_in l p.ranks.0) × (p.grade.total ≡ total s l 
 -- The bench holds the chains cs, each as often, whatever the order: a heap with room for 4,096 places, and what is
 -- on each of them is placed.
 pub record Holds {S : Type 0} {m : Ghosts S} (s : Meaning) (l : Cells) (bench : Bench S m) (cs : List Chain) : Type 0 where
-  pub ready : Ready s.no_worse (heap_items bench.places)
+  pub ready : Ready s (heap_items bench.places)
   pub room : Roomy bench
   pub places : AllByRecursion (Placed s l) (heap_items bench.places)
   pub chains : (c : Chain) → times c (on_bench l bench) ≡ times c cs

@@ -5,7 +5,6 @@
 ghost use Rattle.std.specs.Prelude.{◌≡◌, ℕ, ◌+◌, ◌<◌, ◌≤◌, true, false, Contains, List, [], ◌∷◌, ◌++◌, length, take, drop, IfOk, MatchOption, ◌==◌};
 ghost use Rattle.std.specs.BinaryHeap.{heap_capacity, heap_items};
 ghost use Rattle.std.proofs.Props.{props};
-ghost use Rattle.scores.specs.Scores.{stepped};
 ghost use Rattle.bench.specs.Order.{Ready, First};
 
 use chains::{Chain, Taken};
@@ -53,16 +52,7 @@ struct Looked {
 pub struct Bench<S: Score> {
     places: BinaryHeap<Place<S>>,
     ghost roomy: { 4096 ≤ heap_capacity places },
-    ghost ready: { Ready S.Score.meaning.no_worse (heap_items places) } by { Prim.hlevel props },
-}
-
-// The total after a row of penalties, from a total on.
-fn stepped<S: Score>(total: u64, penalties: &[u16]) -> u64
-    ensures { result ≡ stepped S.meaning total penalties.now }
-{
-    penalties
-        .iter()
-        .fold(total, |total, penalty| S::step(total, *penalty))
+    ghost ready: { Ready S.Score.meaning (heap_items places) } by { Prim.hlevel props },
 }
 
 // How many cells of the text have an allowed opening before them, where the one before `first` is allowed. Every beginning of
@@ -155,7 +145,7 @@ impl<S: Score> Bench<S> {
 
     // The place that stands before all others.
     fn first(&self) -> Option<&Place<S>>
-        ensures { MatchOption result (heap_items self.now.places ≡ []) (λ x. First S.Score.meaning.no_worse x.now (heap_items self.now.places) × (heap_items self.now.places ≡ x.now ∷ drop 1 (heap_items self.now.places))) }
+        ensures { MatchOption result (heap_items self.now.places ≡ []) (λ x. First S.Score.meaning x.now (heap_items self.now.places) × (heap_items self.now.places ≡ x.now ∷ drop 1 (heap_items self.now.places))) }
     {
         self.places.peek()
     }
@@ -214,8 +204,9 @@ impl<S: Score> Bench<S> {
                     line: parent.line,
                     ranks: &ranks,
                 };
-                let total = S::step(before, child.penalty(cell));
-                self.put_child(is_first, child, stepped::<S>(total, &penalties[cell + 1..]));
+                let through = S::step(before, child.penalty(cell));
+                let total = scores::total_from::<S>(through, &penalties[cell + 1..]);
+                self.put_child(is_first, child, total);
                 is_first = false;
             }
             before = S::step(before, penalties[cell]);

@@ -2,8 +2,8 @@
 ghost use Rattle.std.specs.Prelude.{◌≡◌, Some, refl};
 ghost use Rattle.std.specs.Ordering.{is_eq, on};
 ghost use Rattle.std.specs.Cmp.{on_total, eq_by_cmp_equiv, partial_equiv_from_equiv, partial_order_from_agreeing_total};
-ghost use Rattle.bench.specs.Order.{by_total};
-ghost use Rattle.bench.specs.OrderLemmas.{totals};
+ghost use Rattle.scores.specs.Scores.{compare};
+ghost use Rattle.scores.specs.ScoresLemmas.{totals};
 
 use crate::chains::Chain;
 use crate::ranks::Ranks;
@@ -20,7 +20,7 @@ pub(crate) struct Place<S> {
     pub(crate) ranks: Reverse<Ranks>,
 }
 
-// A total. Greater is what the score says is better, so the order is written by hand.
+// A total. Greater is what the score says is better, so the order is the score's.
 #[derive(Drop)]
 pub(crate) struct Grade<S> {
     pub(crate) total: u64,
@@ -43,7 +43,7 @@ impl<S: Score> Place<S> {
 }
 
 impl<S: Score> PartialEq for Grade<S> {
-    ghost eq = { λ x y. is_eq (by_total S.Score.meaning.no_worse x.total y.total) };
+    ghost eq = { λ x y. is_eq (compare S.Score.meaning x.total y.total) };
 
     ghost laws = { partial_equiv_from_equiv (eq_by_cmp_equiv (on_total (λ g. g.total) (totals S.Score.laws))) };
 
@@ -57,9 +57,9 @@ impl<S: Score> Eq for Grade<S> {
 }
 
 impl<S: Score> PartialOrd for Grade<S> {
-    ghost partial_cmp = { λ x y. Some (by_total S.Score.meaning.no_worse x.total y.total) };
+    ghost partial_cmp = { λ x y. Some (compare S.Score.meaning x.total y.total) };
 
-    ghost laws = { partial_order_from_agreeing_total (on (λ g. g.total) (by_total S.Score.meaning.no_worse)) (on_total (λ g. g.total) (totals S.Score.laws)) (λ _ _. refl) (λ _ _. refl) };
+    ghost laws = { partial_order_from_agreeing_total (on (λ g. g.total) (compare S.Score.meaning)) (on_total (λ g. g.total) (totals S.Score.laws)) (λ _ _. refl) (λ _ _. refl) };
 
     fn partial_cmp(&self, other: &Grade<S>) -> Option<Ordering> {
         Some(self.cmp(other))
@@ -67,7 +67,7 @@ impl<S: Score> PartialOrd for Grade<S> {
 }
 
 impl<S: Score> Ord for Grade<S> {
-    ghost cmp = { on (λ g. g.total) (by_total S.Score.meaning.no_worse) };
+    ghost cmp = { on (λ g. g.total) (compare S.Score.meaning) };
 
     ghost total = { on_total (λ g. g.total) (totals S.Score.laws) };
 
@@ -76,13 +76,6 @@ impl<S: Score> Ord for Grade<S> {
     ghost matches_eq = { λ _ _. refl };
 
     fn cmp(&self, other: &Grade<S>) -> Ordering {
-        match (
-            S::no_worse(self.total, other.total),
-            S::no_worse(other.total, self.total),
-        ) {
-            (true, true) => Ordering::Equal,
-            (true, false) => Ordering::Greater,
-            (false, _) => Ordering::Less,
-        }
+        scores::compare::<S>(self.total, other.total)
     }
 }

@@ -1,5 +1,7 @@
 -- What a score means, what it is held to, and what the two scores mean.
-use Rattle.std.specs.Prelude.{◌≡◌, ℕ, ◌+◌, ◌-◌, ◌*◌, ◌^◌, ◌<◌, ◌≤◌, min, Bool, true, not, ◌&&◌, ◌⊎◌, List, [], ◌∷◌, ◌++◌, length, sum, nat_le, All}
+use Rattle.std.specs.Prelude.{◌≡◌, ℕ, ◌+◌, ◌-◌, ◌*◌, ◌^◌, ◌<◌, ◌≤◌, ◌↔◌, min, Bool, true, not, ◌&&◌, if◌then◌else◌, ◌⊎◌, List, [], ◌∷◌, ◌++◌, length, sum, nat_le, All}
+use Rattle.std.specs.declared.cmp.Ordering.{Ordering}
+use Rattle.std.specs.declared.cmp.Ordering.TheVariants.{Less, Equal, Greater}
 use Rattle.std.specs.List.{fold}
 
 -- The meaning of a score: the start total, the step from a total and a penalty to a total, whether one total is no worse than
@@ -25,6 +27,21 @@ pub record Laws (s : Meaning) : Type 0 where
 -- one total is better than another when it is no worse and the other is not
 abbrev pub better_by : Meaning → ℕ → ℕ → Bool
 better_by s t u = s.no_worse t u && not (s.no_worse u t)
+
+-- how two totals compare: greater is what is better
+abbrev pub compare : Meaning → ℕ → ℕ → Ordering
+compare s t u =
+    if s.no_worse t u then (if s.no_worse u t then Equal else Greater) else Less
+
+-- Of every score that keeps its laws: a total is greater than another exactly when it is better,
+-- less exactly when the other is better, and equal exactly when each is no worse than the other.
+pub record BetterIsGreater : Type 0 where
+  pub greater : (s : Meaning) → Laws s → (t u : ℕ)
+      → (compare s t u ≡ Greater) ↔ (better_by s t u ≡ true)
+  pub less : (s : Meaning) → Laws s → (t u : ℕ)
+      → (compare s t u ≡ Less) ↔ (better_by s u t ≡ true)
+  pub equal : (s : Meaning) → Laws s → (t u : ℕ)
+      → (compare s t u ≡ Equal) ↔ ((s.no_worse t u ≡ true) × (s.no_worse u t ≡ true))
 
 -- the total after the penalties ps, from the total t on
 abbrev pub stepped : Meaning → ℕ → List ℕ → ℕ

@@ -2,8 +2,10 @@
 #![tactic(auto)]
 
 ghost use Rattle.std.specs.Prelude.{◌≡◌, ℕ, refl};
-ghost use Rattle.scores.specs.Scores.{Meaning, Laws, better_by, stepped, sum_meaning, shares_meaning, Stepwise, Exact};
+ghost use Rattle.scores.specs.Scores.{Meaning, Laws, compare, stepped, sum_meaning, shares_meaning, BetterIsGreater, Stepwise, Exact};
 ghost use Rattle.std.proofs.Common.{rules};
+
+use std::cmp::Ordering;
 
 // Totals and penalties are plain numbers, the operands of a score.
 pub trait Score {
@@ -114,21 +116,35 @@ impl Score for Shares {
     }
 }
 
-// Whether one total is better than another: no worse, where the other is not.
-pub fn better<S: Score>(a: u64, b: u64) -> bool
-    ensures { result ≡ better_by S.meaning a b }
+/// How the total `a` compares with the total `b`: greater is what is better. No total is refused.
+/// docs/scores.md has the rule.
+pub fn compare<S: Score>(a: u64, b: u64) -> Ordering
+    ensures value { result ≡ compare S.meaning a b }
+    ensures better { BetterIsGreater }
 {
-    S::no_worse(a, b) && !S::no_worse(b, a)
+    match (S::no_worse(a, b), S::no_worse(b, a)) {
+        (true, true) => Ordering::Equal,
+        (true, false) => Ordering::Greater,
+        (false, _) => Ordering::Less,
+    }
 }
 
-// The total of a row of penalties, the first one's step first. Under `Sum` and `Shares` it is exact within the
-// score's two figures.
+/// The total after a row of penalties, the first one's step first, from the total `total` on. No total
+/// and no row is refused. docs/scores.md has the rule.
+pub fn total_from<S: Score>(total: u64, penalties: &[u16]) -> u64
+    ensures { result ≡ stepped S.meaning total penalties.now }
+{
+    penalties
+        .iter()
+        .fold(total, |total, penalty| S::step(total, *penalty))
+}
+
+/// The total of a row of penalties, the first one's step first, from the start total on. Under `Sum`
+/// and `Shares` it is exact within the score's two figures. docs/scores.md has the rule.
 pub fn total<S: Score>(penalties: &[u16]) -> u64
     ensures value { result ≡ stepped S.meaning S.meaning.start penalties.now }
     ensures stepwise { Stepwise }
     ensures exact { Exact }
 {
-    penalties
-        .iter()
-        .fold(S::START, |total, penalty| S::step(total, *penalty))
+    total_from::<S>(S::START, penalties)
 }

@@ -1,5 +1,6 @@
 // Totals worked out by hand.
-use scores::{Score, Shares, Sum, better, total};
+use scores::{Score, Shares, Sum, compare, total, total_from};
+use std::cmp::Ordering;
 
 #[test]
 fn sums(rt: HostRuntime) {
@@ -11,9 +12,10 @@ fn sums(rt: HostRuntime) {
         assert_eq!(rt; Sum::step(total, penalty), 4_294_967_295);
     }
     assert!(rt; Sum::no_worse(2, 2));
-    assert!(rt; better::<Sum>(2, 3));
-    assert!(rt; !better::<Sum>(2, 2));
-    assert!(rt; !better::<Sum>(3, 2));
+    assert_eq!(rt; total_from::<Sum>(3, &[65_535, 7]), 65_545);
+    assert_eq!(rt; compare::<Sum>(2, 3), Ordering::Greater);
+    assert_eq!(rt; compare::<Sum>(2, 2), Ordering::Equal);
+    assert_eq!(rt; compare::<Sum>(3, 2), Ordering::Less);
 }
 
 #[test]
@@ -33,9 +35,10 @@ fn shares(rt: HostRuntime) {
         assert_eq!(rt; Shares::step(total, penalty), after);
     }
     assert!(rt; Shares::no_worse(2, 2));
-    assert!(rt; better::<Shares>(3, 2));
-    assert!(rt; !better::<Shares>(2, 2));
-    assert!(rt; !better::<Shares>(2, 3));
+    assert_eq!(rt; total_from::<Shares>(90, &[20, 99]), 7_200);
+    assert_eq!(rt; compare::<Shares>(3, 2), Ordering::Greater);
+    assert_eq!(rt; compare::<Shares>(2, 2), Ordering::Equal);
+    assert_eq!(rt; compare::<Shares>(2, 3), Ordering::Less);
 }
 
 // The two figures as generic code reads them.

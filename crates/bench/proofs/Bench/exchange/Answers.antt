@@ -39,8 +39,8 @@ put_child-requires-clause-total g c =
     let inside : i < length l = omega (arith, text_fills l chain c.args.text.now c.args.parent.of_line c.requires.text, c.loop-cell-test.true, c.open_cells-open.ensures.within.1) in
     let rest : take (length c.args.penalties.now - (i + 1)) (drop (i + 1) c.args.penalties.now) ≡ drop (i + 1) (penalties l chain) =
     take_all _ (drop (i + 1) c.args.penalties.now) (omega (arith, length-drop (i + 1) c.args.penalties.now)) ∙ ap (drop (i + 1)) c.requires.penalties in
-    c.stepped.ensures
-    ∙ (λ j. stepped s (c.step-total.ensures j) (rest j))
+    c.total_from-total.ensures
+    ∙ (λ j. stepped s (c.step-through.ensures j) (rest j))
     ∙ child_total s l chain (chain_in l c.in-Some.ranks) i c.loop-cell.before c.penalty.result c.args.parent.of_line.long inside c.in-Some.ensures.2 c.loop-cell.invariant.1 c.penalty.ensures
 
 pub raised-requires : goal.raised-requires
