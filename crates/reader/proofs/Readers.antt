@@ -1,5 +1,5 @@
 -- What the calls of a reader rest on. Assumes nothing.
-use Rattle.std.proofs.Common.{Bor, ◌≡◌, ℕ, ◌+◌, ◌*◌, ◌≤◌, min, Bool, true, false, cond, ◌&&◌, ltb, leb, List, [], ◌∷◌, ◌++◌, length, take, drop, Some, None, Ok, Err, Option, Result, ⊎_elim, sym, refl, ap, ◌∙◌, subst, mul-le-mul_right, mul-le-mul, arith}
+use Rattle.std.proofs.Common.{Bor, ◌≡◌, ℕ, ◌+◌, ◌*◌, ◌≤◌, min, Bool, true, false, cond, ◌&&◌, ltb, leb, List, [], ◌∷◌, ◌++◌, length, take, drop, Some, None, Ok, Err, Option, Result, ⊎_elim, sym, refl, ap, ◌∙◌, subst, mul-le-mul_right, arith}
 use Rattle.std.specs.Option.{option_copied, option_map}
 use Rattle.std.specs.List.{slice_get}
 use Rattle.std.proofs.lemmas.List.{drop_more, length-take-le, take-append-drop}
