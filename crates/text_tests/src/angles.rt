@@ -1,19 +1,17 @@
 // Latitudes and longitudes at the ends of their ranges.
-use crate::judged::{admits, admits_none, allows, allows_none};
+use crate::judged::Judged;
 use positions::Axis;
 
-#[test]
-fn latitudes(rt: HostRuntime) {
-    let admitted: [&[u8]; 6] = [
+const LATITUDES: Judged = Judged {
+    admitted: &[
         b"9000000N",
         b"9000000S",
         b"0000000N",
         b"0000001S",
         b"8959999N",
         b"5012345N",
-    ];
-    admits(&rt, &Axis::Latitude, &admitted);
-    let others: [&[u8]; 13] = [
+    ],
+    not_admitted: &[
         b"9000001N",
         b"9000001S",
         b"9100000N",
@@ -27,15 +25,9 @@ fn latitudes(rt: HostRuntime) {
         b"5012345",
         b" 012345N",
         b"",
-    ];
-    admits_none(&rt, &Axis::Latitude, &others);
-}
-
-#[test]
-fn openings_of_latitudes(rt: HostRuntime) {
-    let allowed: [&[u8]; 7] = [b"", b"9", b"90", b"905", b"9059999", b"501", b"0000000"];
-    allows(&rt, &Axis::Latitude, &allowed);
-    let others: [&[u8]; 8] = [
+    ],
+    allowed: &[b"", b"9", b"90", b"905", b"9059999", b"501", b"0000000"],
+    not_allowed: &[
         b"N",
         b"50/",
         b"91",
@@ -44,22 +36,19 @@ fn openings_of_latitudes(rt: HostRuntime) {
         b"0000000S",
         b"9059999N",
         b"5012345N0",
-    ];
-    allows_none(&rt, &Axis::Latitude, &others);
-}
+    ],
+};
 
-#[test]
-fn longitudes(rt: HostRuntime) {
-    let admitted: [&[u8]; 6] = [
+const LONGITUDES: Judged = Judged {
+    admitted: &[
         b"18000000E",
         b"17959999W",
         b"17959999E",
         b"00000000E",
         b"00000001W",
         b"00412345W",
-    ];
-    admits(&rt, &Axis::Longitude, &admitted);
-    let others: [&[u8]; 9] = [
+    ],
+    not_admitted: &[
         b"18000000W",
         b"18000001E",
         b"18100000E",
@@ -69,21 +58,24 @@ fn longitudes(rt: HostRuntime) {
         b"0412345W",
         b"004123456W",
         b"",
-    ];
-    admits_none(&rt, &Axis::Longitude, &others);
-}
-
-#[test]
-fn openings_of_longitudes(rt: HostRuntime) {
-    let allowed: [&[u8]; 6] = [b"", b"99", b"180", b"1805", b"18059999", b"0041"];
-    allows(&rt, &Axis::Longitude, &allowed);
-    let others: [&[u8]; 6] = [
+    ],
+    allowed: &[b"", b"99", b"180", b"1805", b"18059999", b"0041"],
+    not_allowed: &[
         b"E",
         b"181",
         b"1806",
         b"0041234W",
         b"18000000W",
         b"00412345W0",
-    ];
-    allows_none(&rt, &Axis::Longitude, &others);
+    ],
+};
+
+#[test]
+fn latitudes(rt: HostRuntime) {
+    LATITUDES.check(&rt, &Axis::Latitude);
+}
+
+#[test]
+fn longitudes(rt: HostRuntime) {
+    LONGITUDES.check(&rt, &Axis::Longitude);
 }

@@ -1,11 +1,9 @@
 // The Gregorian calendar: 1904, 2000 and 2096 are leap years, 1900 is not.
-use crate::judged::{admits, admits_none, allows, allows_none};
-use grammars::Grammar;
+use crate::judged::Judged;
 use grammars::date::Date;
 
-#[test]
-fn days_of_the_calendar(rt: HostRuntime) {
-    let days: [&[u8]; 20] = [
+const DAYS: Judged = Judged {
+    admitted: &[
         b"01011900",
         b"28021900",
         b"31121900",
@@ -26,52 +24,14 @@ fn days_of_the_calendar(rt: HostRuntime) {
         b"31101999",
         b"30111999",
         b"31121999",
-    ];
-    admits(&rt, &Date, &days);
-}
-
-#[test]
-fn no_days_of_the_calendar(rt: HostRuntime) {
-    let others: [&[u8]; 22] = [
-        b"29021900",
-        b"29021903",
-        b"29022099",
-        b"30022000",
-        b"31041999",
-        b"31061999",
-        b"31091999",
-        b"31111999",
-        b"32011999",
-        b"00011999",
-        b"01001999",
-        b"01131999",
-        b"31121899",
-        b"01012100",
-        b"01010000",
-        b"99999999",
-        b" 1011999",
-        b"0101199x",
-        b"0101199:",
-        b"1/011999",
-        b"01/01/99",
-        b"1999AUG1",
-    ];
-    admits_none(&rt, &Date, &others);
-    allows_none(&rt, &Date, &others);
-    assert!(rt; !Date.is_admitted(b"0101190"));
-    assert!(rt; !Date.is_admitted(b"010119000"));
-    assert!(rt; !Date.is_admitted(b""));
-}
-
-#[test]
-fn openings_of_dates(rt: HostRuntime) {
+    ],
+    not_admitted: &[b"0101190", b"010119000", b""],
     // A month is judged from four symbols on, and a year with eight.
-    let allowed: [&[u8]; 15] = [
+    allowed: &[
         b"", b"0", b"9", b"01", b"31", b"310", b"319", b"3112", b"2902", b"3004", b"29021",
         b"29029", b"2902190", b"0101999", b"010118",
-    ];
-    allows(&rt, &Date, &allowed);
-    let others: [&[u8]; 10] = [
+    ],
+    not_allowed: &[
         b"x",
         b"00",
         b"32",
@@ -82,6 +42,37 @@ fn openings_of_dates(rt: HostRuntime) {
         b"0113",
         b"01x",
         b"010120001",
-    ];
-    allows_none(&rt, &Date, &others);
+    ],
+};
+
+// Texts of eight symbols.
+const NO_DAYS: &[&[u8]] = &[
+    b"29021900",
+    b"29021903",
+    b"29022099",
+    b"30022000",
+    b"31041999",
+    b"31061999",
+    b"31091999",
+    b"31111999",
+    b"32011999",
+    b"00011999",
+    b"01001999",
+    b"01131999",
+    b"31121899",
+    b"01012100",
+    b"01010000",
+    b"99999999",
+    b" 1011999",
+    b"0101199x",
+    b"0101199:",
+    b"1/011999",
+    b"01/01/99",
+    b"1999AUG1",
+];
+
+#[test]
+fn days_of_the_calendar(rt: HostRuntime) {
+    DAYS.check(&rt, &Date);
+    Judged::none(NO_DAYS).check(&rt, &Date);
 }

@@ -1,15 +1,33 @@
 // Printed lines, and the explanations of corners that make no sheet.
+use crate::judged::same;
 use descriptions::{CornerFault, Kind, classify, line, read_sheet};
-use std::test::Fail;
+use grammars::sheet::Sheet;
+use std::alloc::Global;
+use std::fmt::Display;
+use std::process::Abort;
 
 const SOUTHWEST: &[u8] = b"4900000N00600000W";
 
 const NORTHEAST: &[u8] = b"5100000N00200000W";
 
+fn sheet_of_corners(rt: &impl Abort) -> Sheet {
+    read_sheet(SOUTHWEST, NORTHEAST).expect(rt, "the corners make a sheet")
+}
+
+fn check_words(rt: &impl Abort, heap: Global, printed: &impl Display, words: &str) {
+    let made = printed.to_string(heap).expect(rt, "there is memory");
+    same(rt, made.as_str(), words);
+}
+
+fn check_line(rt: &impl Abort, heap: Global, sheet: &Sheet, text: &str, printed: &str) {
+    let made = line(heap, sheet, text).expect(rt, "there is memory");
+    same(rt, made.as_str(), printed);
+}
+
 #[test]
-fn lines_for_texts(rt: HostRuntime) -> Result<(), Fail> {
-    let sheet = read_sheet(SOUTHWEST, NORTHEAST)?;
-    let cases = [
+fn lines_for_texts(rt: HostRuntime) {
+    let sheet = sheet_of_corners(&rt);
+    let cases: &[(&str, &str)] = &[
         ("29022000", "29022000: date"),
         (
             "5012345N00412345W",
@@ -25,18 +43,29 @@ fn lines_for_texts(rt: HostRuntime) -> Result<(), Fail> {
         ),
         ("", ": none of these"),
     ];
-    for (text, printed) in cases {
-        let made = line(rt.alloc(), &sheet, text)?;
-        assert_eq!(rt; made.as_str(), printed);
+    for &(text, printed) in cases {
+        check_line(&rt, rt.alloc(), &sheet, text, printed);
     }
-    Ok(())
 }
 
+fn check_corners(
+    rt: &impl Abort,
+    heap: Global,
+    corners: (&[u8], &[u8]),
+    fault: CornerFault,
+    words: &str,
+) {
+    let (southwest, northeast) = corners;
+    same(rt, read_sheet(southwest, northeast).err(), Some(fault));
+    same(rt, fault.explanation(), words);
+    check_words(rt, heap, &fault, words);
+}
+
+// Where both corners fail, the southwest is named.
 #[test]
-fn corners(rt: HostRuntime) -> Result<(), Fail> {
-    assert!(rt; read_sheet(SOUTHWEST, NORTHEAST).is_ok());
-    // Where both corners fail, the southwest is named.
-    let cases: [(&[u8], &[u8], CornerFault, &str); 4] = [
+fn corners(rt: HostRuntime) {
+    sheet_of_corners(&rt);
+    let cases: &[(&[u8], &[u8], CornerFault, &str)] = &[
         (
             b"49N",
             NORTHEAST,
@@ -62,19 +91,15 @@ fn corners(rt: HostRuntime) -> Result<(), Fail> {
             "the southwest corner lies north or east of the northeast corner",
         ),
     ];
-    for (southwest, northeast, fault, words) in cases {
-        assert_eq!(rt; read_sheet(southwest, northeast).err(), Some(fault));
-        assert_eq!(rt; fault.explanation(), words);
-        let made = fault.to_string(rt.alloc())?;
-        assert_eq!(rt; made.as_str(), words);
+    for &(southwest, northeast, fault, words) in cases {
+        check_corners(&rt, rt.alloc(), (southwest, northeast), fault, words);
     }
-    Ok(())
 }
 
 #[test]
-fn kinds(rt: HostRuntime) -> Result<(), Fail> {
-    let sheet = read_sheet(SOUTHWEST, NORTHEAST)?;
-    let cases: [(&[u8], Kind, &str); 4] = [
+fn kinds(rt: HostRuntime) {
+    let sheet = sheet_of_corners(&rt);
+    let cases: &[(&[u8], Kind, &str)] = &[
         (b"5012345N", Kind::Latitude, "latitude"),
         (b"00412345W", Kind::Longitude, "longitude"),
         (
@@ -88,10 +113,8 @@ fn kinds(rt: HostRuntime) -> Result<(), Fail> {
             "position 0 02.005 S 4 02.005 E off the sheet",
         ),
     ];
-    for (text, kind, words) in cases {
-        assert_eq!(rt; classify(&sheet, text), kind);
-        let made = kind.to_string(rt.alloc())?;
-        assert_eq!(rt; made.as_str(), words);
+    for &(text, kind, words) in cases {
+        same(&rt, classify(&sheet, text), kind);
+        check_words(&rt, rt.alloc(), &kind, words);
     }
-    Ok(())
 }
