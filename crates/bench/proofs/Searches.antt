@@ -5,7 +5,6 @@ use Rattle.std.proofs.lemmas.List.{drop-drop, drop-take, nil_from_length}
 use Rattle.std.proofs.lemmas.Bool.{cases_lt, cond-true, cond-false}
 use Rattle.std.proofs.ByRecursion.{All-push}
 use Rattle.scores.specs.Scores.{Meaning, Laws}
-use Rattle.scores.specs.declared.Score.{Ghosts}
 use Rattle.grammars.specs.Grammars.{Texts, Sets, Lawful}
 use Rattle.pages.proofs.Shape.{line_parts}
 use Rattle.search.specs.BestFirst.{Frontier, Least}
@@ -25,14 +24,14 @@ use Rattle.bench.proofs.Benches.{holds_self, many_on}
 
 -- what a look at the chain c gives, with k chains looked at before: c is the next of the ranking, the reading begins with
 -- its text, and the bench agrees again
-pub record LookGives {S : Type 0} {m : Ghosts S} (s : Meaning) (g : Sets) (l : Cells) (k granted : ℕ) (is : Bench S m) (reading : Reading) (c : Chain) : Type 0 where
+pub record LookGives {S : Type 0} (s : Meaning) (g : Sets) (l : Cells) (k granted : ℕ) (is : Bench S) (reading : Reading) (c : Chain) : Type 0 where
   pub next : (k < length (ranking s g.allows l)) × (drop k (ranking s g.allows l) ≡ c ∷ drop (k + 1) (ranking s g.allows l))
   pub text : (n : ℕ) → n ≡ length l → take n reading.text ≡ chains.text l c
   pub agrees : k < granted → AgreesAt s g.allows l (k + 1) granted is
 
-module _ {S : Type 0} {m : Ghosts S} (s : Meaning) (laws : Laws s) (g : Sets) (lawful : Lawful g) (l : Cells) (well : well_formed_line l ≡ true) where
+module _ {S : Type 0} (s : Meaning) (laws : Laws s) (g : Sets) (lawful : Lawful g) (l : Cells) (well : well_formed_line l ≡ true) where
   -- the chains on the bench fit it, with room for the next look
-  pub room_left : (k granted : ℕ) (bench : Bench S m) → AgreesAt s g.allows l k granted bench → k < granted → length (on_bench l bench) + length l ≤ 4097
+  pub room_left : (k granted : ℕ) (bench : Bench S) → AgreesAt s g.allows l k granted bench → k < granted → length (on_bench l bench) + length l ≤ 4097
   room_left k granted bench h lt =
       let size = small s laws g lawful l well k (on_bench l bench) h.frontier in
       let more : length l * (k + 1) ≤ length l * granted = mul-le-mul_left (length l) (omega arith) in
@@ -51,10 +50,10 @@ module _ {S : Type 0} {m : Ghosts S} (s : Meaning) (laws : Laws s) (g : Sets) (l
           omega arith
 
   -- the chains on it are live
-  pub all_live : (k granted : ℕ) (bench : Bench S m) → AgreesAt s g.allows l k granted bench → (c : Chain) → Contains (on_bench l bench) c → chains.live g.allows l c ≡ true
+  pub all_live : (k granted : ℕ) (bench : Bench S) → AgreesAt s g.allows l k granted bench → (c : Chain) → Contains (on_bench l bench) c → chains.live g.allows l c ≡ true
   all_live k granted bench h c here = (((ranked s laws g l).exactly_live c).0 (Contains-drop k (ranking s g.allows l) c ((h.frontier.holds c).0 here).0)).1
 
-  module _ (k granted : ℕ) (was is : Bench S m) (reading : Reading) (h : AgreesAt s g.allows l k granted was) (seen : Seen s g.allows l was is reading) where
+  module _ (k granted : ℕ) (was is : Bench S) (reading : Reading) (h : AgreesAt s g.allows l k granted was) (seen : Seen s g.allows l was is reading) where
     least : Least (before s l) seen.chain (on_bench l was)
     least = (chains_best_first s laws g lawful l well).least k (on_bench l was) seen.chain h.frontier seen.chosen.first
 
@@ -85,13 +84,13 @@ module _ {S : Type 0} {m : Ghosts S} (s : Meaning) (laws : Laws s) (g : Sets) (l
     }
 
   -- an empty bench has been through all of it
-  pub look_ends : (k granted : ℕ) (bench : Bench S m) → AgreesAt s g.allows l k granted bench → on_bench l bench ≡ [] → k ≡ length (ranking s g.allows l)
+  pub look_ends : (k granted : ℕ) (bench : Bench S) → AgreesAt s g.allows l k granted bench → on_bench l bench ≡ [] → k ≡ length (ranking s g.allows l)
   look_ends k granted bench h e = ((chains_best_first s laws g lawful l well).ends k (on_bench l bench) h.frontier).0 e
 
-  pub look_left : (k granted : ℕ) (bench : Bench S m) → AgreesAt s g.allows l k granted bench → k ≡ length (ranking s g.allows l) → on_bench l bench ≡ []
+  pub look_left : (k granted : ℕ) (bench : Bench S) → AgreesAt s g.allows l k granted bench → k ≡ length (ranking s g.allows l) → on_bench l bench ≡ []
   look_left k granted bench h e = ((chains_best_first s laws g lawful l well).ends k (on_bench l bench) h.frontier).1 e
 
-pub agrees_empty : {S : Type 0} {m : Ghosts S} (s : Meaning) (allows : Texts) (l : Cells) (k granted : ℕ) (was is : Bench S m) → AgreesAt s allows l k granted was → on_bench l was ≡ [] → Holds s l is [] → AgreesAt s allows l k granted is
+pub agrees_empty : {S : Type 0} (s : Meaning) (allows : Texts) (l : Cells) (k granted : ℕ) (was is : Bench S) → AgreesAt s allows l k granted was → on_bench l was ≡ [] → Holds s l is [] → AgreesAt s allows l k granted is
 agrees_empty s allows l k granted was is h e empty = record {
   holds = holds_self s l is [] empty;
   frontier = subst (Frontier lowered (ranking s allows l) k) (e ∙ sym (nil_from_length (on_bench l is) empty.many)) h.frontier;
@@ -99,9 +98,9 @@ agrees_empty s allows l k granted was is h e empty = record {
   room = h.room;
 }
 
-module _ {S : Type 0} {m : Ghosts S} (s : Meaning) (laws : Laws s) (g : Sets) (lawful : Lawful g) (l : Cells) (well : well_formed_line l ≡ true) where
+module _ {S : Type 0} (s : Meaning) (laws : Laws s) (g : Sets) (lawful : Lawful g) (l : Cells) (well : well_formed_line l ≡ true) where
   -- a bench that holds the root alone agrees before any look
-  pub agrees_root : (bench : Bench S m) → Holds s l bench (root l ∷ []) → AgreesAt s g.allows l 0 0 bench
+  pub agrees_root : (bench : Bench S) → Holds s l bench (root l ∷ []) → AgreesAt s g.allows l 0 0 bench
   agrees_root bench h =
       let best = chains_best_first s laws g lawful l well in
       let none : length l * 0 ≡ 0 = mul-zero (length l) in
@@ -114,7 +113,7 @@ module _ {S : Type 0} {m : Ghosts S} (s : Meaning) (laws : Laws s) (g : Sets) (l
       }
 
   -- a bench that agrees is within its bound, and is empty exactly when no live chain is left
-  module _ (k granted : ℕ) (bench : Bench S m) (h : AgreesAt s g.allows l k granted bench) where
+  module _ (k granted : ℕ) (bench : Bench S) (h : AgreesAt s g.allows l k granted bench) where
     pub few_on : in_use bench ≤ 1 + k * (length l - 1)
     few_on = let size = small s laws g lawful l well k (on_bench l bench) h.frontier in omega (arith, many_on l bench)
 

@@ -4,7 +4,6 @@ use Rattle.std.specs.BinaryHeap.{heap_capacity, heap_items, heap_len}
 use Rattle.std.specs.List.{AllByRecursion}
 use Rattle.pages.specs.Shape.{Cells}
 use Rattle.scores.specs.Scores.{Meaning}
-use Rattle.scores.specs.declared.Score.{Ghosts}
 use Rattle.grammars.specs.Grammars.{Texts}
 use Rattle.search.specs.BestFirst.{Unbeaten}
 use Rattle.search.specs.Chains.{Chain, ChainOf, text, total, before, children}
@@ -15,19 +14,19 @@ use Rattle.bench.specs.Ranks.{chain_in}
 use Rattle.bench.specs.Order.{Ready}
 
 -- how many places are in use
-abbrev pub in_use : {S : Type 0} {m : Ghosts S} → Bench S m → ℕ
+abbrev pub in_use : {S : Type 0} → Bench S → ℕ
 in_use bench = heap_len bench.places
 
 -- there is room for 4,096 places
-abbrev pub Roomy : {S : Type 0} {m : Ghosts S} → Bench S m → Type 0
+abbrev pub Roomy : {S : Type 0} → Bench S → Type 0
 Roomy bench = 4096 ≤ heap_capacity bench.places
 
 -- the chains on a bench, in no order
-abbrev pub on_bench : {S : Type 0} {m : Ghosts S} → Cells → Bench S m → List Chain
+abbrev pub on_bench : {S : Type 0} → Cells → Bench S → List Chain
 on_bench l bench = map (λ p. chain_in l p.ranks.0) (heap_items bench.places)
 
 -- the chains beside the first where it is given up, or else all of them
-abbrev pub beside : {S : Type 0} {m : Ghosts S} → Bool → Cells → Bench S m → List Chain
+abbrev pub beside : {S : Type 0} → Bool → Cells → Bench S → List Chain
 beside is_first l bench = cond is_first (drop 1 (on_bench l bench)) (on_bench l bench)
 
 -- the two chains are the same
@@ -51,7 +50,7 @@ Placed s l p = ChainOf l (chain_in l p.ranks.0) × (p.grade.total ≡ total s l 
 
 -- The bench holds the chains cs, each as often, whatever the order: a heap with room for 4,096 places, and what is
 -- on each of them is placed.
-pub record Holds {S : Type 0} {m : Ghosts S} (s : Meaning) (l : Cells) (bench : Bench S m) (cs : List Chain) : Type 0 where
+pub record Holds {S : Type 0} (s : Meaning) (l : Cells) (bench : Bench S) (cs : List Chain) : Type 0 where
   pub ready : Ready s (heap_items bench.places)
   pub room : Roomy bench
   pub places : AllByRecursion (Placed s l) (heap_items bench.places)
@@ -69,7 +68,7 @@ abbrev pub reading_of : Meaning → Cells → Chain → Reading
 reading_of s l c = record { text = text l c ++ replicate (24 - length l) 0; total = total s l c }
 
 -- a chain of the bench was looked at, and its children were left in its place
-pub record Seen {S : Type 0} {m : Ghosts S} (s : Meaning) (allows : Texts) (l : Cells) (was is : Bench S m) (reading : Reading) : Type 0 where
+pub record Seen {S : Type 0} (s : Meaning) (allows : Texts) (l : Cells) (was is : Bench S) (reading : Reading) : Type 0 where
   pub chain : Chain
   pub rest : List Chain
   pub chosen : Taken s l (on_bench l was) chain rest

@@ -2,7 +2,6 @@
 use Rattle.std.specs.Prelude.{ℕ, ◌+◌, ◌-◌, ◌*◌, ◌≤◌, min, Bool, cond, List, [], ◌∷◌, length, take, drop, Some, None, Option}
 use Rattle.pages.specs.Shape.{Cells}
 use Rattle.scores.specs.Scores.{Meaning}
-use Rattle.scores.specs.declared.Score.{Ghosts}
 use Rattle.grammars.specs.Grammars.{Texts, Sets}
 use Rattle.search.specs.BestFirst.{Frontier}
 use Rattle.search.specs.Chains.{Chain, text, lowered, ranking}
@@ -12,7 +11,7 @@ use Rattle.bench.specs.Held.{on_bench, Holds, reading_of}
 
 -- The bench agrees with score, grammar and line once some live chains of those granted have been looked at: it holds, with
 -- their totals, the chains that come next, and the grant leaves room for all that may come.
-pub record AgreesAt {S : Type 0} {m : Ghosts S} (s : Meaning) (allows : Texts) (l : Cells) (looked granted : ℕ) (bench : Bench S m) : Type 0 where
+pub record AgreesAt {S : Type 0} (s : Meaning) (allows : Texts) (l : Cells) (looked granted : ℕ) (bench : Bench S) : Type 0 where
   pub holds : Holds s l bench (on_bench l bench)
   pub frontier : Frontier lowered (ranking s allows l) looked (on_bench l bench)
   pub within : looked ≤ granted

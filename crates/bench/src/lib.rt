@@ -3,8 +3,7 @@
 #![tactic(auto)]
 
 ghost use Rattle.std.specs.Prelude.{◌≡◌, ℕ, ◌+◌, ◌<◌, ◌≤◌, true, false, Contains, List, [], ◌∷◌, ◌++◌, length, take, drop, IfOk, MatchOption, ◌==◌};
-ghost use Rattle.std.specs.BinaryHeap.{heap_capacity, heap_items};
-ghost use Rattle.std.proofs.Props.{props};
+ghost use Rattle.std.specs.BinaryHeap.{heap_items};
 ghost use Rattle.bench.specs.Order.{Ready, First};
 
 use chains::{Chain, Taken};
@@ -46,13 +45,12 @@ struct Looked {
     is_admitted: bool,
 }
 
-// Room for 4,096 places, got when the bench is made and never asked for again. The heap stands in its order by the score.
-// What it holds is of a line that the bench does not have, so `Holds` is a condition of the calls.
+// Room for 4,096 places, got when the bench is made and never asked for again. What it holds is of a
+// line that the bench does not have, and stands in the order of a score: that, and the room, is what
+// `Holds` says, a condition of the calls.
 #[derive(Drop)]
 pub struct Bench<S: Score> {
     places: BinaryHeap<Place<S>>,
-    ghost roomy: { 4096 ≤ heap_capacity places },
-    ghost ready: { Ready S.Score.meaning (heap_items places) } by { Prim.hlevel props },
 }
 
 // How many cells of the text have an allowed opening before them, where the one before `first` is allowed. Every beginning of
@@ -117,6 +115,7 @@ impl<S: Score> Bench<S> {
 
     // Leaves the chain alone in which no cell is raised.
     pub fn begin(&mut self, line: &Line)
+        requires room { Roomy self.old }
         ensures { (g : Sets) → Lawful g → AgreesAt S.Score.meaning g.allows (line_of line.now) 0 0 self.new }
     {
         self.places.clear();
@@ -145,6 +144,7 @@ impl<S: Score> Bench<S> {
 
     // The place that stands before all others.
     fn first(&self) -> Option<&Place<S>>
+        requires { Ready S.Score.meaning (heap_items self.now.places) }
         ensures { MatchOption result (heap_items self.now.places ≡ []) (λ x. First S.Score.meaning x.now (heap_items self.now.places) × (heap_items self.now.places ≡ x.now ∷ drop 1 (heap_items self.now.places))) }
     {
         self.places.peek()

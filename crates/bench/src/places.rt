@@ -45,7 +45,8 @@ impl<S: Score> Place<S> {
 impl<S: Score> PartialEq for Grade<S> {
     ghost eq = { λ x y. is_eq (compare S.Score.meaning x.total y.total) };
 
-    ghost laws = { partial_equiv_from_equiv (eq_by_cmp_equiv (on_total (λ g. g.total) (totals S.Score.laws))) };
+    ghost laws = { partial_equiv_from_equiv
+        (eq_by_cmp_equiv (on_total (λ g. g.total) (totals S.Score.laws))) };
 
     fn eq(&self, other: &Grade<S>) -> bool {
         self.cmp(other).is_eq()
@@ -59,7 +60,9 @@ impl<S: Score> Eq for Grade<S> {
 impl<S: Score> PartialOrd for Grade<S> {
     ghost partial_cmp = { λ x y. Some (compare S.Score.meaning x.total y.total) };
 
-    ghost laws = { partial_order_from_agreeing_total (on (λ g. g.total) (compare S.Score.meaning)) (on_total (λ g. g.total) (totals S.Score.laws)) (λ _ _. refl) (λ _ _. refl) };
+    ghost laws = { partial_order_from_agreeing_total
+        (on (λ g. g.total) (compare S.Score.meaning))
+        (on_total (λ g. g.total) (totals S.Score.laws)) (λ _ _. refl) (λ _ _. refl) };
 
     fn partial_cmp(&self, other: &Grade<S>) -> Option<Ordering> {
         Some(self.cmp(other))

@@ -14,7 +14,6 @@ use Rattle.pages.specs.Writing.{page_bytes}
 use Rattle.pages.specs.Laws.{Accepted}
 use Rattle.pages.proofs.Shape.{line_parts}
 use Rattle.scores.specs.Scores.{Meaning, Laws}
-use Rattle.scores.specs.declared.Score.{Ghosts}
 use Rattle.grammars.specs.Grammars.{Sets, Lawful}
 use Rattle.search.specs.Chains.{Chain, ranking}
 use Rattle.bench.specs.declared.Sought.{Sought}
@@ -31,7 +30,7 @@ use Rattle.reader.specs.Calls.{takes, taken_by, loading, FromPage, granting_to, 
 pub line_is : {held : Option Line} {lent : Option (Bor Line)} (line : Bor Line) → option_copied lent ≡ held → lent ≡ Some line → held ≡ Some line.now
 line_is line same is = sym same ∙ ap option_copied is
 
-module _ {G S : Type 0} {m : Ghosts S} (s : Meaning) (g : Sets) (r : Reader G S m) (line : Line) (e : r.line ≡ Some line) where
+module _ {G S : Type 0} (s : Meaning) (g : Sets) (r : Reader G S) (line : Line) (e : r.line ≡ Some line) where
   pub on_line : Agrees s g r → OnLine s g r (line_of line)
   on_line h = subst (λ o. AgreesWith s g r (option_map line_of o)) e h.agrees
 
@@ -42,7 +41,7 @@ module _ {G S : Type 0} {m : Ghosts S} (s : Meaning) (g : Sets) (r : Reader G S 
   line_seen = ap (option_map line_of) e
 
 -- a grant is small, and so is its product with a line's cells
-module _ {G S : Type 0} {m : Ghosts S} (s : Meaning) (g : Sets) (r : Reader G S m) (line : Line) (e : r.line ≡ Some line) (h : Agrees s g r) where
+module _ {G S : Type 0} (s : Meaning) (g : Sets) (r : Reader G S) (line : Line) (e : r.line ≡ Some line) (h : Agrees s g r) where
   pub grant_small : r.granted ≤ 4095
   grant_small =
       let most = (on_line s g r line e h).bench.room in
@@ -54,7 +53,7 @@ pub counted : (lent : Option (Bor Line)) (n : ℕ) → (lent ≡ None → n ≡ 
 counted None n none some = none refl
 counted (Some line) n none some = some line refl
 
-pub places_used : {G S : Type 0} {m : Ghosts S} (s : Meaning) (laws : Laws s) (g : Sets) (lawful : Lawful g) (r : Reader G S m) → Agrees s g r → PlacesInUse (view r).line r.looked (in_use r.bench)
+pub places_used : {G S : Type 0} (s : Meaning) (laws : Laws s) (g : Sets) (lawful : Lawful g) (r : Reader G S) → Agrees s g r → PlacesInUse (view r).line r.looked (in_use r.bench)
 places_used s laws g lawful r h = go r.line refl
   where
     go : (held : Option Line) → r.line ≡ held → PlacesInUse (option_map line_of held) r.looked (in_use r.bench)

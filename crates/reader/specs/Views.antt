@@ -4,7 +4,6 @@ use Rattle.std.specs.Option.{option_map}
 use Rattle.pages.specs.Shape.{Cells}
 use Rattle.pages.specs.Answers.{line_of}
 use Rattle.scores.specs.Scores.{Meaning}
-use Rattle.scores.specs.declared.Score.{Ghosts}
 use Rattle.grammars.specs.Grammars.{Sets}
 use Rattle.bench.specs.Held.{in_use, Roomy}
 use Rattle.bench.specs.Searched.{AgreesAt}
@@ -19,7 +18,7 @@ pub record View : Type 0 where
   pub handed : ℕ
   pub last_total : Option ℕ
 
-abbrev pub view : {G S : Type 0} {m : Ghosts S} → Reader G S m → View
+abbrev pub view : {G S : Type 0} → Reader G S → View
 view r = record { line = option_map line_of r.line; granted = r.granted; looked = r.looked; handed = r.handed; last_total = r.last_total }
 
 -- before the first load, and after a load
@@ -30,22 +29,22 @@ abbrev pub loaded : Cells → View
 loaded l = record { line = Some l; granted = 0; looked = 0; handed = 0; last_total = None }
 
 -- its grammar and its score are as they were
-pub record Kept {G S : Type 0} {m : Ghosts S} (was is : Reader G S m) : Type 0 where
+pub record Kept {G S : Type 0} (was is : Reader G S) : Type 0 where
   pub grammar : is.grammar ≡ was.grammar
   pub score : is.score ≡ was.score
 
 -- with a line the bench agrees with it, and no more chains were handed out than looked at
-pub record OnLine {G S : Type 0} {m : Ghosts S} (s : Meaning) (g : Sets) (r : Reader G S m) (l : Cells) : Type 0 where
+pub record OnLine {G S : Type 0} (s : Meaning) (g : Sets) (r : Reader G S) (l : Cells) : Type 0 where
   pub fewer : r.handed ≤ r.looked
   pub bench : AgreesAt s g.allows l r.looked r.granted r.bench
 
 -- before the first load there is nothing
-abbrev pub AgreesWith : {G S : Type 0} {m : Ghosts S} → Meaning → Sets → Reader G S m → Option Cells → Type 0
+abbrev pub AgreesWith : {G S : Type 0} → Meaning → Sets → Reader G S → Option Cells → Type 0
 AgreesWith s g r None = (view r ≡ unloaded) × (in_use r.bench ≡ 0)
 AgreesWith s g r (Some l) = OnLine s g r l
 
 -- The one condition that the calls are made under: the reader agrees with its bench. It is true of a new reader, and each
 -- call keeps it.
-pub record Agrees {G S : Type 0} {m : Ghosts S} (s : Meaning) (g : Sets) (r : Reader G S m) : Type 0 where
+pub record Agrees {G S : Type 0} (s : Meaning) (g : Sets) (r : Reader G S) : Type 0 where
   pub room : Roomy r.bench
   pub agrees : AgreesWith s g r (view r).line

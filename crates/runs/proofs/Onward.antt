@@ -2,7 +2,6 @@
 use Rattle.std.proofs.Common.{◌≡◌, ℕ, ◌+◌, ◌<◌, ◌≤◌, List, [], ◌∷◌, length, get_or, take, drop, set, Some, Result, sym, refl, ap, ◌∙◌, subst, subst₂, arith}
 use Rattle.std.proofs.lemmas.List.{drop_more, take_more, take_more_set, take_all, drop-set-lt}
 use Rattle.scores.specs.Scores.{Meaning}
-use Rattle.scores.specs.declared.Score.{Ghosts}
 use Rattle.grammars.specs.Grammars.{Sets}
 use Rattle.reader.specs.declared.calls.Reader.{Reader}
 use Rattle.reader.specs.declared.refusals.Refusal.{Refusal}
@@ -14,7 +13,7 @@ use Rattle.runs.specs.Steps.{Tracks, Made}
 use Rattle.runs.proofs.Histories.{tracks_start}
 
 -- the first i rows have been run
-pub record Running {G S : Type 0} {m : Ghosts S} (s : Meaning) (sets : G → Sets) (pages places₀ : List ℕ) (rows₀ : List Row) (reader₀ : Reader G S m) (i : ℕ) (reader : Reader G S m) (rows : List Row) (places : List ℕ) : Type 0 where
+pub record Running {G S : Type 0} (s : Meaning) (sets : G → Sets) (pages places₀ : List ℕ) (rows₀ : List Row) (reader₀ : Reader G S) (i : ℕ) (reader : Reader G S) (rows : List Row) (places : List ℕ) : Type 0 where
   pub history : List Moment
   pub ran : Ran s (sets reader₀.grammar) pages places₀ (take i rows₀) (take i rows) history places
   pub tracks : Tracks s (sets reader₀.grammar) history (view reader)
@@ -22,7 +21,7 @@ pub record Running {G S : Type 0} {m : Ghosts S} (s : Meaning) (sets : G → Set
   pub kept : Kept reader₀ reader
   pub rest : drop i rows ≡ drop i rows₀
 
-module _ {G S : Type 0} {m : Ghosts S} {s : Meaning} {sets : G → Sets} {pages places₀ : List ℕ} {rows₀ : List Row} {reader₀ : Reader G S m} where
+module _ {G S : Type 0} {s : Meaning} {sets : G → Sets} {pages places₀ : List ℕ} {rows₀ : List Row} {reader₀ : Reader G S} where
   pub running_none : view reader₀ ≡ unloaded → Agrees s (sets reader₀.grammar) reader₀ → Running s sets pages places₀ rows₀ reader₀ 0 reader₀ rows₀ places₀
   running_none fresh agrees = record {
     history = [];
@@ -33,8 +32,8 @@ module _ {G S : Type 0} {m : Ghosts S} {s : Meaning} {sets : G → Sets} {pages 
     rest = refl;
   }
 
-  module _ {i : ℕ} {reader : Reader G S m} {rows : List Row} {places : List ℕ} (r : Running s sets pages places₀ rows₀ reader₀ i reader rows places) where
-    pub running_more : (d : Row) {answered : Result Answer Refusal} {reader' : Reader G S m} {places' : List ℕ} → i < length rows → length rows ≡ length rows₀
+  module _ {i : ℕ} {reader : Reader G S} {rows : List Row} {places : List ℕ} (r : Running s sets pages places₀ rows₀ reader₀ i reader rows places) where
+    pub running_more : (d : Row) {answered : Result Answer Refusal} {reader' : Reader G S} {places' : List ℕ} → i < length rows → length rows ≡ length rows₀
         → Agrees s (sets reader.grammar) reader' → Kept reader reader'
         → Made s (sets reader.grammar) pages (view reader) places (get_or rows i d).call answered (view reader') places'
         → Running s sets pages places₀ rows₀ reader₀ (i + 1) reader' (set rows i (record { call = (get_or rows i d).call; answer = Some answered })) places'

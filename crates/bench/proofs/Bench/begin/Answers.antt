@@ -1,16 +1,23 @@
-use Rattle.std.proofs.Common.{◌≡◌, [], ◌∷◌, ◌++◌, map, length, take, ap, ◌∙◌, arith}
+use Rattle.std.proofs.Common.{◌≡◌, ◌≤◌, [], ◌∷◌, ◌++◌, map, length, take, ap, ◌∙◌, arith}
+use Rattle.std.specs.BinaryHeap.{heap_capacity}
 use Rattle.pages.specs.Answers.{line_of}
 use Rattle.bench.specs.Ranks.{chain_in}
 use Rattle.scores.specs.Scores.{stepped}
 use Rattle.search.specs.Chains.{penalties}
 use Rattle.bench.proofs.Lines.{as_many, flat_root, flat_chain}
 use Rattle.bench.proofs.Texts.{penalties_long, front}
-use Rattle.bench.proofs.Benches.{holds_same}
+use Rattle.bench.proofs.Benches.{holds_none, holds_same}
 use Rattle.bench.proofs.Searches.{agrees_root}
 use Rattle.bench.proofs.Bench.begin.Goals as goal
 
 pub invariant_of-chain : goal.invariant_of-chain
 invariant_of-chain g c = record { of_line = flat_chain (line_of c.args.line.now) c.args.line.now.sound c.flat-ranks.result c.flat-ranks.ensures }
+
+pub put-requires-clause-holds : goal.put-requires-clause-holds
+put-requires-clause-holds g c =
+    let told = c.clear.ensures in
+    let room : 4096 ≤ heap_capacity c.clear.new.self = omega (arith, told.capacity, c.requires) in
+    holds_none g.S.Score.meaning (line_of c.args.line.now) _ told.heap_order room told.items
 
 pub put-requires-clause-total : goal.put-requires-clause-total
 put-requires-clause-total g c =

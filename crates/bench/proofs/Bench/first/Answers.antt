@@ -6,4 +6,4 @@ pub returns : goal.returns
 returns g c =
     let told = c.peek.ensures in
     let bench = c.args.self.now in
-    peeked g.S.Score.meaning (λ p. p.now) (heap_items bench.places) _ bench.places.data.ok.0 c.peek.result told.variant told.lookup told.greatest bench.ready
+    peeked g.S.Score.meaning (λ p. p.now) (heap_items bench.places) _ bench.places.data.ok.0 c.peek.result told.variant told.lookup told.greatest c.requires

@@ -5,4 +5,4 @@ use Rattle.bench.proofs.Bench.remove_first.Goals as goal
 pub returns : goal.returns
 returns g c =
     let told = c.pop.ensures in
-    holds_removed (line_of c.args.line.now) c.args.self.now _ c.requires.holds _ c.pop.result told.none told.unchanged told.top told.permutation
+    holds_removed g.S.Score.meaning (line_of c.args.line.now) c.args.self.now _ c.requires.holds _ c.pop.result told.capacity told.none told.unchanged told.top told.permutation told.heap_order
