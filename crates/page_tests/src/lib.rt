@@ -6,6 +6,8 @@ mod bounds;
 #[cfg(test)]
 mod cursor;
 #[cfg(test)]
+mod held;
+#[cfg(test)]
 mod pages_made;
 #[cfg(test)]
 mod refusals;

@@ -1,7 +1,7 @@
 // Pages for the tests.
 use pages::{Line, line_of_page};
 use std::alloc::{AllocError, Global};
-use std::test::Fail;
+use std::process::Abort;
 
 // The page that the tests of other crates have too, as no crate of tests stands on another.
 // One line of eight cells: 3 at 0 or 2 at 5; 0 at 0 or 8 at 2; then 0, 2, 2, 0 and 2 at 0; 3 at 0 or 4 at 1.
@@ -64,7 +64,7 @@ pub(crate) fn longer(heap: Global, page: &[u8], byte: u8) -> Result<Vec<u8>, All
 }
 
 // The line of a number, which the page has.
-pub(crate) fn line_in(page: &[u8], number: usize) -> Result<Line, Fail> {
-    let found = line_of_page(page, number)?;
-    found.ok_or_else(|| Fail::new("the page has no such line"))
+pub(crate) fn line_in(rt: &impl Abort, page: &[u8], number: usize) -> Line {
+    let found = line_of_page(page, number).expect(rt, "the page is good");
+    found.expect(rt, "the page has the line")
 }
