@@ -59,8 +59,9 @@ fn reader_after_its_rows(rt: HostRuntime) -> Result<(), Fail> {
     assert_eq!(rt; report.granted, 6, "granted");
     assert_eq!(rt; report.looked, 4, "looked");
     assert_eq!(rt; report.handed, 2, "handed");
-    assert_eq!(rt; reader.next(&mut places[0..8]), Ok(Outcome::Found(8)));
-    assert!(rt; places.starts_with(b"28022023"), "the third");
+    let mut place = [0; 8];
+    assert_eq!(rt; reader.next(&mut place), Ok(Outcome::Found(8)));
+    assert!(rt; &place == b"28022023", "the third");
     assert_eq!(rt; reader.last_total(), Some(7), "the third");
     Ok(())
 }
