@@ -240,6 +240,10 @@ watched_answers n =
     loaded ∷ granted ∷ next (Found 8) ∷ told n 3 1 ∷ next (Found 8) ∷ told n 4 2 ∷ next (Found 8) ∷ told n 5 3
     ∷ next (Found 8) ∷ told n 6 4 ∷ next Exhausted ∷ told n 6 4 ∷ []
 
+-- and both the first reading and the second were found
+abbrev pub both_found : List Moment
+both_found = moment (law.found second_chain) 4 ∷ moment (law.found first_chain) 3 ∷ begun 6
+
 -- THE WORKED READINGS
 pub record WorkedReadings : Type 0 where
   -- 2000 is a leap year, 1900 is not
@@ -322,6 +326,9 @@ pub record WorkedReadings : Type 0 where
   pub date_kept_back : ShutOut (moment law.refused 5 ∷ begun 6) (moment law.reported 5)
   pub date_made_up : ShutOut (moment (law.found first_chain) 2 ∷ begun 6) (moment law.reported 2)
   pub report_looks : ShutOut (begun 6) (moment law.reported 1)
+  -- the total last seen is that of the reading found last, and there is none after a load
+  pub last_total : law.last_total_in sum_meaning both_found ≡ Some 6
+  pub no_last_total : law.last_total_in sum_meaning (moment (law.loaded line) 0 ∷ both_found) ≡ None
   -- a line that a score takes is at its limit, one past it is not taken
   pub sum_takes : takes sum_meaning (replicate 24 (alt 49 65_535 ∷ [])) ≡ true
   pub shares_take : takes shares_meaning (replicate 9 (alt 49 98 ∷ alt 50 99 ∷ [])) ≡ true
