@@ -132,7 +132,7 @@ typedef struct markbook_asked {
 /* What is of no use for the outcome is 0, and place, line and cell are MARKBOOK_NONE, as in markbook_checked. */
 typedef struct markbook_came {
     uint32_t outcome;
-    uint32_t refused; /* MARKBOOK_REFUSED: the number of the refusal, 1 to 13 */
+    uint32_t refused; /* MARKBOOK_REFUSED: the number of the refusal, 1 to 10 or 13 */
     size_t place;     /* refused with 1 to 6: what markbook_checked says of the page, counted from the start of the page */
     size_t line;
     size_t cell;

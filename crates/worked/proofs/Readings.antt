@@ -1,5 +1,5 @@
 -- The worked readings, by computing. Assumes nothing.
-use Rattle.std.proofs.Common.{◌≡◌, ℕ, ◌≤◌, Contains, List, [], ◌∷◌, map, length, get_or, take, Some, Ok, Option, Result, refl, sym, ap, ◌∙◌, subst, ⊎_elim, true≢false, rules, arith}
+use Rattle.std.proofs.Common.{◌≡◌, ℕ, Contains, List, [], ◌∷◌, map, length, get_or, take, Some, Ok, Option, Result, refl, sym, ap, ◌∙◌, subst, ⊎_elim, true≢false, rules, arith}
 use Rattle.pages.specs.Reading.{read_page, read_lines, read_line, read_cells, read_cell, read_alternatives}
 use Rattle.scores.specs.Scores.{Meaning, Laws, sum_meaning, shares_meaning}
 use Rattle.grammars.specs.Grammars.{Sets, Lawful}
@@ -10,7 +10,7 @@ use Rattle.reader.specs.declared.refusals.Refusal.{Refusal}
 use Rattle.runs.specs.declared.rows.Call.{Call}
 use Rattle.runs.specs.declared.rows.Answer.{Answer}
 use Rattle.search.specs.Chains.{Chain, ChainOf}
-use Rattle.search.proofs.Members.{Contains-first, Contains-rest, Contains-cons_cases, no_member}
+use Rattle.search.proofs.Members.{Contains-first, Contains-cons_cases, no_member}
 use Rattle.search.proofs.Ranking.{ranked}
 use Rattle.runs.specs.Runs.{live_chains, Runs}
 use Rattle.runs.specs.declared.rows.Answer.TheVariants as answer

@@ -1,4 +1,4 @@
-use Rattle.std.proofs.Common.{Bor, ◌≡◌, ℕ, List, [], ◌∷◌, map, Err, sym, ap, ◌∙◌, arith, slice_index_or}
+use Rattle.std.proofs.Common.{Bor, ℕ, List, [], ◌∷◌, map, Err, sym, ap, ◌∙◌, arith, slice_index_or}
 use Rattle.std.proofs.lemmas.Result.{err_from_is_err_and}
 use Rattle.linewords.proofs.Lists.{four, five}
 use Rattle.desk.proofs.Asked.{of_four, of_fifth}
