@@ -5,9 +5,11 @@ ghost use Rattle.std.specs.Prelude.{⊤};
 use plays::{LoadFault, Play, Source};
 use scripts::{Command, CommandFault, read_command, setting_of};
 use settings::{Scoring, Setting, Wanted};
+use std::alloc::Global;
+use std::fmt::Debug;
 use std::io;
 use std::io::{ErrorKind, Read};
-use std::test::Fail;
+use std::process::Abort;
 
 // Eight cells: 0; 1 at 0 or 2 at 55; 0; 1 at 0 or 2 at 30; 2; 0; 0; 0 at 0 or 1 at 30. Every chain of them is a date.
 const ORDER_PAGE: &[u8] =
@@ -21,116 +23,152 @@ const SOUTHWEST: &str = "4900000N00600000W";
 
 const NORTHEAST: &str = "5100000N00200000W";
 
-// What is printed of a load of the page's line 0, a grant of 5, five nexts and a report.
-fn played(rt: &HostRuntime, setting: Setting, mut page: &[u8]) -> Result<String, Fail> {
-    let mut play = Play::new(rt.alloc());
-    play.load("load page 0", &mut page, 0)?;
-    play.grant("grant 5", 5)?;
-    for _ in 0..5u8 {
-        play.next("next")?;
-    }
-    play.report("report")?;
-    play.run(rt.alloc(), setting)?;
-    Ok(play.lines(rt.alloc())?)
+const MEMORY: &str = "there is memory";
+
+// What was found is what was worked out by hand. A test calls this and those below, and asserts nothing itself, since each
+// `assert_eq!` in its own body would be proved there anew.
+fn same<T: Copy + Debug + PartialEq>(rt: &impl Abort, found: T, wanted: T) {
+    assert_eq!(rt; found, wanted);
 }
+
+// What is printed of the calls of a play.
+fn check_lines(rt: &impl Abort, heap: Global, play: &mut Play<'_>, setting: Setting, wanted: &str) {
+    play.run(heap, setting).expect(rt, MEMORY);
+    let text = play.lines(heap).expect(rt, MEMORY);
+    same(rt, text.as_str(), wanted);
+}
+
+// What is printed of a load of the page's line 0, a grant of 5, five nexts and a report.
+fn check_played(rt: &impl Abort, heap: Global, setting: Setting, mut page: &[u8], wanted: &str) {
+    let mut play = Play::new(heap);
+    play.load("load page 0", &mut page, 0)
+        .expect(rt, "the page is read");
+    play.grant("grant 5", 5).expect(rt, MEMORY);
+    for _ in 0..5u8 {
+        play.next("next").expect(rt, MEMORY);
+    }
+    play.report("report").expect(rt, MEMORY);
+    check_lines(rt, heap, &mut play, setting, wanted);
+}
+
+const ORDER_BY_SUM: &str =
+    "load page 0: loaded\ngrant 5: granted\nnext: found 01012000\nnext: found 01012001\nnext: found 01022000\nnext: found 02012000\nnext: found 01022001\nreport: 8 cells, 5 granted, 5 looked at, 5 handed out, 2 places in use\n";
+
+const ORDER_BY_SHARES: &str =
+    "load page 0: loaded\ngrant 5: granted\nnext: found 01012000\nnext: found 01012001\nnext: found 01022000\nnext: found 01022001\nnext: found 02012000\nreport: 8 cells, 5 granted, 5 looked at, 5 handed out, 2 places in use\n";
 
 // 01012001 and 01022000 both come to 30 under the sum: the one that is lower in the first cell where they differ is first.
 // 02012000 comes to 55, less than the 60 of 01022001; but it keeps 45 of a hundred, and 01022001 keeps 70 twice, which is 49.
 #[test]
-fn scores_order_differently(rt: HostRuntime) -> Result<(), Fail> {
-    let sums = Setting {
-        wanted: Wanted::Dates,
-        scoring: Scoring::Sum,
-    };
-    let text = played(&rt, sums, ORDER_PAGE)?;
-    assert_eq!(rt;
-        text.as_str(),
-        "load page 0: loaded\ngrant 5: granted\nnext: found 01012000\nnext: found 01012001\nnext: found 01022000\nnext: found 02012000\nnext: found 01022001\nreport: 8 cells, 5 granted, 5 looked at, 5 handed out, 2 places in use\n"
+fn scores_order_differently(rt: HostRuntime) {
+    let wanted = Wanted::Dates;
+    let scoring = Scoring::Sum;
+    check_played(
+        &rt,
+        rt.alloc(),
+        Setting { wanted, scoring },
+        ORDER_PAGE,
+        ORDER_BY_SUM,
     );
-    let shares = Setting {
-        wanted: Wanted::Dates,
-        scoring: Scoring::Shares,
-    };
-    let text = played(&rt, shares, ORDER_PAGE)?;
-    assert_eq!(rt;
-        text.as_str(),
-        "load page 0: loaded\ngrant 5: granted\nnext: found 01012000\nnext: found 01012001\nnext: found 01022000\nnext: found 01022001\nnext: found 02012000\nreport: 8 cells, 5 granted, 5 looked at, 5 handed out, 2 places in use\n"
+    let scoring = Scoring::Shares;
+    check_played(
+        &rt,
+        rt.alloc(),
+        Setting { wanted, scoring },
+        ORDER_PAGE,
+        ORDER_BY_SHARES,
     );
-    Ok(())
+}
+
+const SHEET_BY_SUM: &str =
+    "load page 0: loaded\ngrant 5: granted\nnext: found 5000000N00400000W\nnext: exhausted\nnext: exhausted\nnext: exhausted\nnext: exhausted\nreport: 17 cells, 5 granted, 2 looked at, 1 handed out, 0 places in use\n";
+
+const SHEET_BY_SHARES: &str =
+    "load page 0: refused 7, the score does not take the line\ngrant 5: refused 8, no line is loaded\nnext: refused 8, no line is loaded\nnext: refused 8, no line is loaded\nnext: refused 8, no line is loaded\nnext: refused 8, no line is loaded\nnext: refused 8, no line is loaded\nreport: 0 cells, 0 granted, 0 looked at, 0 handed out, 0 places in use\n";
+
+fn setting_in(rt: &impl Abort, words: &[&str]) -> Setting {
+    setting_of(words).expect(rt, "the arguments are good")
 }
 
 // 52 degrees lie north of the sheet. Shares take no line of 17 cells.
 #[test]
-fn positions_on_a_sheet(rt: HostRuntime) -> Result<(), Fail> {
-    let sums = setting_of(&["sheet", SOUTHWEST, NORTHEAST])?;
-    let text = played(&rt, sums, SHEET_PAGE)?;
-    assert_eq!(rt;
-        text.as_str(),
-        "load page 0: loaded\ngrant 5: granted\nnext: found 5000000N00400000W\nnext: exhausted\nnext: exhausted\nnext: exhausted\nnext: exhausted\nreport: 17 cells, 5 granted, 2 looked at, 1 handed out, 0 places in use\n"
-    );
-    let shares = setting_of(&["sheet", SOUTHWEST, NORTHEAST, "shares"])?;
-    let text = played(&rt, shares, SHEET_PAGE)?;
-    assert_eq!(rt;
-        text.as_str(),
-        "load page 0: refused 7, the score does not take the line\ngrant 5: refused 8, no line is loaded\nnext: refused 8, no line is loaded\nnext: refused 8, no line is loaded\nnext: refused 8, no line is loaded\nnext: refused 8, no line is loaded\nnext: refused 8, no line is loaded\nreport: 0 cells, 0 granted, 0 looked at, 0 handed out, 0 places in use\n"
-    );
-    Ok(())
+fn positions_on_a_sheet(rt: HostRuntime) {
+    let sums = setting_in(&rt, &["sheet", SOUTHWEST, NORTHEAST]);
+    check_played(&rt, rt.alloc(), sums, SHEET_PAGE, SHEET_BY_SUM);
+    let shares = setting_in(&rt, &["sheet", SOUTHWEST, NORTHEAST, "shares"]);
+    check_played(&rt, rt.alloc(), shares, SHEET_PAGE, SHEET_BY_SHARES);
 }
 
-#[test]
-fn calls_are_read(rt: HostRuntime) -> Result<(), Fail> {
-    let cases = [
-        (
-            "load a.page 3",
-            Command::Load {
-                file: "a.page",
-                number: 3,
-            },
-        ),
-        (
-            "\tgrant  18446744073709551615 ",
-            Command::Grant {
-                chains: 18_446_744_073_709_551_615,
-            },
-        ),
-        ("next", Command::Next),
-        ("report", Command::Report),
-    ];
-    for (text, command) in cases {
-        assert_eq!(rt; read_command(rt.alloc(), text)?, Ok(command), "{text}");
+// A line of a script, and what is read of it.
+type ReadLine = (&'static str, Result<Command<'static>, CommandFault>);
+
+fn check_line(rt: &impl Abort, heap: Global, line: ReadLine) {
+    let found = read_command(heap, line.0).expect(rt, MEMORY);
+    same(rt, (line.0, found), line);
+}
+
+fn check_read(rt: &impl Abort, heap: Global, lines: &[ReadLine]) {
+    for &line in lines {
+        check_line(rt, heap, line);
     }
-    Ok(())
 }
 
+const CALLS: &[ReadLine] = &[
+    (
+        "load a.page 3",
+        Ok(Command::Load {
+            file: "a.page",
+            number: 3,
+        }),
+    ),
+    (
+        "\tgrant  18446744073709551615 ",
+        Ok(Command::Grant {
+            chains: 18_446_744_073_709_551_615,
+        }),
+    ),
+    ("next", Ok(Command::Next)),
+    ("report", Ok(Command::Report)),
+];
+
 #[test]
-fn bad_lines_are_refused(rt: HostRuntime) -> Result<(), Fail> {
-    let cases = [
-        ("load a.page", CommandFault::Load),
-        ("load a.page 0 1", CommandFault::Load),
-        ("load a.page first", CommandFault::Load),
-        ("grant", CommandFault::Grant),
-        ("grant -1", CommandFault::Grant),
-        ("grant 18446744073709551616", CommandFault::Grant),
-        ("next 1", CommandFault::Next),
-        ("report now", CommandFault::Report),
-        ("Next", CommandFault::Call),
-        ("", CommandFault::Call),
-    ];
-    for (text, fault) in cases {
-        assert_eq!(rt; read_command(rt.alloc(), text)?, Err(fault), "{text}");
+fn calls_are_read(rt: HostRuntime) {
+    check_read(&rt, rt.alloc(), CALLS);
+}
+
+const BAD_LINES: &[ReadLine] = &[
+    ("load a.page", Err(CommandFault::Load)),
+    ("load a.page 0 1", Err(CommandFault::Load)),
+    ("load a.page first", Err(CommandFault::Load)),
+    ("grant", Err(CommandFault::Grant)),
+    ("grant -1", Err(CommandFault::Grant)),
+    ("grant 18446744073709551616", Err(CommandFault::Grant)),
+    ("next 1", Err(CommandFault::Next)),
+    ("report now", Err(CommandFault::Report)),
+    ("Next", Err(CommandFault::Call)),
+    ("", Err(CommandFault::Call)),
+];
+
+#[test]
+fn bad_lines_are_refused(rt: HostRuntime) {
+    check_read(&rt, rt.alloc(), BAD_LINES);
+}
+
+// Arguments, and whether they are good.
+const ARGUMENTS: &[(&[&str], bool)] = &[
+    (&[], true),
+    (&["shares"], true),
+    (&["shares", "sheet", SOUTHWEST, NORTHEAST], false),
+    (&["shares", "shares"], false),
+    (&["sheet", SOUTHWEST], false),
+    (&["sheet", NORTHEAST, SOUTHWEST], false),
+];
+
+#[test]
+fn arguments_in_another_order_are_refused(rt: HostRuntime) {
+    for &(words, good) in ARGUMENTS {
+        same(&rt, (words, setting_of(words).is_ok()), (words, good));
     }
-    Ok(())
-}
-
-#[test]
-fn arguments_in_another_order_are_refused(rt: HostRuntime) -> Result<(), Fail> {
-    assert!(rt; setting_of(&[]).is_ok());
-    assert!(rt; setting_of(&["shares"]).is_ok());
-    assert!(rt; setting_of(&["shares", "sheet", SOUTHWEST, NORTHEAST]).is_err());
-    assert!(rt; setting_of(&["shares", "shares"]).is_err());
-    assert!(rt; setting_of(&["sheet", SOUTHWEST]).is_err());
-    assert!(rt; setting_of(&["sheet", NORTHEAST, SOUTHWEST]).is_err());
-    Ok(())
 }
 
 // A page that comes in two pieces, between which one read fails.
@@ -171,22 +209,29 @@ fn page_in_two(fault: ErrorKind) -> Faltering<'static> {
     }
 }
 
+// The read of the page fails with this error.
+fn check_failed(rt: &impl Abort, play: &mut Play<'_>, kind: ErrorKind) {
+    let failed = play.load("load page 0", &mut page_in_two(kind), 0);
+    let Err(LoadFault::Reading(error)) = failed else {
+        panic!(rt; "a failed read is no load");
+    };
+    same(rt, error.kind(), kind);
+}
+
 // A read that failed is told with its error, and leaves nothing in the play: what is loaded next is the page alone.
 #[test]
-fn a_failed_read_leaves_the_play(rt: HostRuntime) -> Result<(), Fail> {
+fn a_failed_read_leaves_the_play(rt: HostRuntime) {
     let mut play = Play::new(rt.alloc());
-    let failed = play.load("load page 0", &mut page_in_two(ErrorKind::TimedOut), 0);
-    let Err(LoadFault::Reading(error)) = failed else {
-        return Err(Fail::new("a failed read is no load"));
-    };
-    assert!(rt; error.kind() == ErrorKind::TimedOut);
-    play.load("load page 0", &mut page_in_two(ErrorKind::Interrupted), 0)?;
-    play.grant("grant 5", 5)?;
-    play.next("next")?;
-    play.run(rt.alloc(), setting_of(&[])?)?;
-    assert_eq!(rt;
-        play.lines(rt.alloc())?.as_str(),
-        "load page 0: loaded\ngrant 5: granted\nnext: found 01012000\n"
+    check_failed(&rt, &mut play, ErrorKind::TimedOut);
+    play.load("load page 0", &mut page_in_two(ErrorKind::Interrupted), 0)
+        .expect(&rt, "the page is read");
+    play.grant("grant 5", 5).expect(&rt, MEMORY);
+    play.next("next").expect(&rt, MEMORY);
+    check_lines(
+        &rt,
+        rt.alloc(),
+        &mut play,
+        setting_in(&rt, &[]),
+        "load page 0: loaded\ngrant 5: granted\nnext: found 01012000\n",
     );
-    Ok(())
 }
