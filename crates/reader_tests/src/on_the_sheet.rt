@@ -1,12 +1,9 @@
 // The best position on the sheet, where the best latitude and the best longitude, each by itself, lie off it together.
-use crate::answers::*;
+use crate::answers::{Ask, Seen, Trial};
 use grammars::angle::Axis;
 use grammars::sheet::Sheet;
 use grammars::{Both, Then};
-use reader::Outcome;
-use runs::{Answer, run};
 use scores::Sum;
-use std::test::Fail;
 
 // 50 or (at 1) 51 degrees north and 004 or (at 2) 005 degrees west, with no minutes: 5000000N00400000W at 0, 51.. at 1,
 // ..005.. at 2, and both at 3.
@@ -23,8 +20,22 @@ fn sheet() -> Sheet {
     }
 }
 
+const BEST_PAIRS: Trial = Trial {
+    page: POSITIONS,
+    calls: &[
+        (Ask::Load(0), Seen::Loaded),
+        (Ask::Grant(10), Seen::Granted),
+        (Ask::Next(0, 17), Seen::Found(17)),
+        (Ask::Report, Seen::Told(17, 10, 3, 1)),
+        (Ask::Next(17, 17), Seen::Found(17)),
+        (Ask::Report, Seen::Told(17, 10, 4, 2)),
+        (Ask::Next(0, 17), Seen::Exhausted),
+    ],
+    places: b"5000000N00500000W5100000N00500000W",
+};
+
 #[test]
-fn best_pair_on_the_sheet(rt: HostRuntime) -> Result<(), Fail> {
+fn best_pair_on_the_sheet(rt: HostRuntime) {
     let position = Then {
         cut: 8,
         head: Axis::Latitude,
@@ -34,21 +45,5 @@ fn best_pair_on_the_sheet(rt: HostRuntime) -> Result<(), Fail> {
         one: position,
         other: sheet(),
     };
-    let mut places = [0; 34];
-    let mut rows = [
-        load(0),
-        grant(10),
-        next(0, 17),
-        report(),
-        next(17, 17),
-        report(),
-        next(0, 17),
-    ];
-    run(rt.alloc(), grammar, Sum, POSITIONS, &mut places, &mut rows)?;
-    found(&rt, &rows[2], &places[0..17], b"5000000N00500000W");
-    reported(&rt, &rows[3], 17, 10, 3, 1)?;
-    found(&rt, &rows[4], &places[17..34], b"5100000N00500000W");
-    reported(&rt, &rows[5], 17, 10, 4, 2)?;
-    answered(&rt, &rows[6], Answer::Next(Outcome::Exhausted));
-    Ok(())
+    BEST_PAIRS.check(&rt, rt.alloc(), grammar, Sum);
 }

@@ -2,13 +2,13 @@
 ghost use Rattle.std.specs.Prelude.{◌+◌, ◌*◌, min, nat_le, refl, true};
 ghost use Rattle.std.proofs.Common.{rules};
 
-use crate::answers::*;
+use crate::answers::{Ask, Seen, Trial, begin, check_next};
 use grammars::Grammar;
 use grammars::date::Date;
-use reader::{Outcome, Reader};
-use runs::{Answer, run};
+use reader::Reader;
 use scores::{Score, Shares, Sum};
-use std::test::Fail;
+use std::alloc::Global;
+use std::process::Abort;
 
 // A grammar that admits every text.
 #[derive(Clone, Copy)]
@@ -32,84 +32,80 @@ impl Grammar for Anything {
 const TWO_CELLS: &[u8; 16] = b"\x01\x02\x021\0\02\0\x03\x021\0\02\0\x03";
 
 // 12 and 21 have the same total, 3: the lower rank in the first cell comes first.
+const EQUAL_TOTALS: Trial = Trial {
+    page: TWO_CELLS,
+    calls: &[
+        (Ask::Load(0), Seen::Loaded),
+        (Ask::Grant(4), Seen::Granted),
+        (Ask::Next(0, 2), Seen::Found(2)),
+        (Ask::Next(2, 2), Seen::Found(2)),
+        (Ask::Next(4, 2), Seen::Found(2)),
+        (Ask::Next(6, 2), Seen::Found(2)),
+        (Ask::Next(0, 2), Seen::Exhausted),
+    ],
+    places: b"11122122",
+};
+
 #[test]
-fn equal_totals(rt: HostRuntime) -> Result<(), Fail> {
-    let mut places = [0; 8];
-    let mut rows = [
-        load(0),
-        grant(4),
-        next(0, 2),
-        next(2, 2),
-        next(4, 2),
-        next(6, 2),
-        next(0, 2),
-    ];
-    run(rt.alloc(), Anything, Sum, TWO_CELLS, &mut places, &mut rows)?;
-    found(&rt, &rows[2], &places[0..2], b"11");
-    found(&rt, &rows[3], &places[2..4], b"12");
-    found(&rt, &rows[4], &places[4..6], b"21");
-    found(&rt, &rows[5], &places[6..8], b"22");
-    answered(&rt, &rows[6], Answer::Next(Outcome::Exhausted));
-    Ok(())
+fn equal_totals(rt: HostRuntime) {
+    EQUAL_TOTALS.check(&rt, rt.alloc(), Anything, Sum);
 }
 
 // Two cells, 1 at 0 or 2 at 2, and 1 at 0, 2 at 1 or 3 at 2.
 const TWO_AND_THREE: &[u8; 19] = b"\x01\x02\x021\0\02\0\x02\x031\0\02\0\x013\0\x02";
 
 // 13 and 21 have the same total, 2. The first cell decides, though 21 takes the second symbol once and 13 the third.
+const FIRST_CELL_DECIDES: Trial = Trial {
+    page: TWO_AND_THREE,
+    calls: &[
+        (Ask::Load(0), Seen::Loaded),
+        (Ask::Grant(6), Seen::Granted),
+        (Ask::Next(0, 2), Seen::Found(2)),
+        (Ask::Next(2, 2), Seen::Found(2)),
+        (Ask::Next(4, 2), Seen::Found(2)),
+        (Ask::Next(6, 2), Seen::Found(2)),
+        (Ask::Next(8, 2), Seen::Found(2)),
+        (Ask::Next(10, 2), Seen::Found(2)),
+    ],
+    places: b"111213212223",
+};
+
 #[test]
-fn the_first_cell_decides(rt: HostRuntime) -> Result<(), Fail> {
-    let mut places = [0; 12];
-    let mut rows = [
-        load(0),
-        grant(6),
-        next(0, 2),
-        next(2, 2),
-        next(4, 2),
-        next(6, 2),
-        next(8, 2),
-        next(10, 2),
-    ];
-    run(
-        rt.alloc(),
-        Anything,
-        Sum,
-        TWO_AND_THREE,
-        &mut places,
-        &mut rows,
-    )?;
-    found(&rt, &rows[2], &places[0..2], b"11");
-    found(&rt, &rows[3], &places[2..4], b"12");
-    found(&rt, &rows[4], &places[4..6], b"13");
-    found(&rt, &rows[5], &places[6..8], b"21");
-    found(&rt, &rows[6], &places[8..10], b"22");
-    found(&rt, &rows[7], &places[10..12], b"23");
-    Ok(())
+fn the_first_cell_decides(rt: HostRuntime) {
+    FIRST_CELL_DECIDES.check(&rt, rt.alloc(), Anything, Sum);
+}
+
+// Four chains are granted, and the readings of the page are these four in this order, each with its total.
+fn check_order<S: Score + Drop>(
+    rt: &impl Abort,
+    heap: Global,
+    score: S,
+    page: &[u8],
+    wanted: [(&'static [u8], u64); 4],
+) {
+    let mut reader = Reader::new(heap, Anything, score).expect(rt, "memory");
+    begin(rt, &mut reader, page, 4);
+    let [first, second, third, fourth] = wanted;
+    check_next(rt, &mut reader, first.0, first.1);
+    check_next(rt, &mut reader, second.0, second.1);
+    check_next(rt, &mut reader, third.0, third.1);
+    check_next(rt, &mut reader, fourth.0, fourth.1);
 }
 
 // Two cells, 1 at 0 or 2 at 10, and 1 at 0 or 2 at 20.
 const TENTH_AND_FIFTH: &[u8; 16] = b"\x01\x02\x021\0\02\0\x0a\x021\0\02\0\x14";
 
 // Under Shares the totals of 11, 21, 12 and 22 are 100 × 100, 90 × 100, 100 × 80 and 90 × 80.
+const BY_SHARES: [(&[u8], u64); 4] = [
+    (b"11", 10_000),
+    (b"21", 9_000),
+    (b"12", 8_000),
+    (b"22", 7_200),
+];
+
 #[test]
-fn shares_rank(rt: HostRuntime) -> Result<(), Fail> {
-    let mut reader = Reader::new(rt.alloc(), Anything, Shares)?;
-    let mut place = [0; 2];
-    assert_eq!(rt; reader.load(TENTH_AND_FIFTH, 0), Ok(()));
-    assert_eq!(rt; reader.grant(4), Ok(()));
-    assert_eq!(rt; reader.next(&mut place), Ok(Outcome::Found(2)));
-    assert!(rt; &place == b"11");
-    assert_eq!(rt; reader.last_total(), Some(10_000));
-    assert_eq!(rt; reader.next(&mut place), Ok(Outcome::Found(2)));
-    assert!(rt; &place == b"21");
-    assert_eq!(rt; reader.last_total(), Some(9_000));
-    assert_eq!(rt; reader.next(&mut place), Ok(Outcome::Found(2)));
-    assert!(rt; &place == b"12");
-    assert_eq!(rt; reader.last_total(), Some(8_000));
-    assert_eq!(rt; reader.next(&mut place), Ok(Outcome::Found(2)));
-    assert!(rt; &place == b"22");
-    assert_eq!(rt; reader.last_total(), Some(7_200));
-    Ok(())
+fn shares_rank(rt: HostRuntime) {
+    check_order(&rt, rt.alloc(), Shares, TENTH_AND_FIFTH, BY_SHARES);
 }
 
 // A score under which the order of the penalties counts: each step doubles the total and adds the penalty.
@@ -152,25 +148,11 @@ impl Score for Doubled {
 }
 
 // The penalty of cell 0 comes first: 0 and 3 make 3, and 3 and 0 make 6.
+const BY_DOUBLED: [(&[u8], u64); 4] = [(b"11", 0), (b"12", 3), (b"21", 6), (b"22", 9)];
+
 #[test]
-fn cell_0_is_stepped_first(rt: HostRuntime) -> Result<(), Fail> {
-    let mut reader = Reader::new(rt.alloc(), Anything, Doubled)?;
-    let mut place = [0; 2];
-    assert_eq!(rt; reader.load(TWO_CELLS, 0), Ok(()));
-    assert_eq!(rt; reader.grant(4), Ok(()));
-    assert_eq!(rt; reader.next(&mut place), Ok(Outcome::Found(2)));
-    assert!(rt; &place == b"11");
-    assert_eq!(rt; reader.last_total(), Some(0));
-    assert_eq!(rt; reader.next(&mut place), Ok(Outcome::Found(2)));
-    assert!(rt; &place == b"12");
-    assert_eq!(rt; reader.last_total(), Some(3));
-    assert_eq!(rt; reader.next(&mut place), Ok(Outcome::Found(2)));
-    assert!(rt; &place == b"21");
-    assert_eq!(rt; reader.last_total(), Some(6));
-    assert_eq!(rt; reader.next(&mut place), Ok(Outcome::Found(2)));
-    assert!(rt; &place == b"22");
-    assert_eq!(rt; reader.last_total(), Some(9));
-    Ok(())
+fn cell_0_is_stepped_first(rt: HostRuntime) {
+    check_order(&rt, rt.alloc(), Doubled, TWO_CELLS, BY_DOUBLED);
 }
 
 // Three cells, 3 at 0, 9 at 0 or 0 at 1, and 0 at 0 or 1 at 1.
@@ -178,59 +160,42 @@ const THIRTY_NINE_OR_THIRTY: &[u8; 20] = b"\x01\x03\x013\0\0\x029\0\00\0\x01\x02
 
 // No text of three digits is a date, and all live chains are looked at: 390, 300 and 301. 391 is not live, since 39, the
 // symbols before its last raised cell, opens no date. 300 is, as 3 opens one, and 301, as 30 does.
+const LIVE_BY_SYMBOLS: Trial = Trial {
+    page: THIRTY_NINE_OR_THIRTY,
+    calls: &[
+        (Ask::Load(0), Seen::Loaded),
+        (Ask::Grant(2), Seen::Granted),
+        (Ask::Next(0, 3), Seen::Spent),
+        (Ask::Grant(1), Seen::Granted),
+        (Ask::Next(0, 3), Seen::Exhausted),
+        (Ask::Report, Seen::Told(3, 3, 3, 0)),
+        (Ask::Grant(9), Seen::Granted),
+        (Ask::Next(0, 3), Seen::Exhausted),
+        (Ask::Report, Seen::Told(3, 12, 3, 0)),
+    ],
+    places: b"...",
+};
+
 #[test]
-fn live_by_the_symbols_before(rt: HostRuntime) -> Result<(), Fail> {
-    let mut places = [0; 3];
-    let mut rows = [
-        load(0),
-        grant(2),
-        next(0, 3),
-        grant(1),
-        next(0, 3),
-        report(),
-        grant(9),
-        next(0, 3),
-        report(),
-    ];
-    run(
-        rt.alloc(),
-        Date,
-        Sum,
-        THIRTY_NINE_OR_THIRTY,
-        &mut places,
-        &mut rows,
-    )?;
-    answered(&rt, &rows[2], Answer::Next(Outcome::Spent));
-    answered(&rt, &rows[4], Answer::Next(Outcome::Exhausted));
-    reported(&rt, &rows[5], 3, 3, 3, 0)?;
-    answered(&rt, &rows[7], Answer::Next(Outcome::Exhausted));
-    reported(&rt, &rows[8], 3, 12, 3, 0)
+fn live_by_the_symbols_before(rt: HostRuntime) {
+    LIVE_BY_SYMBOLS.check(&rt, rt.alloc(), Date, Sum);
 }
 
 // Under Shares the totals are 100 × 100, 97 × 100 twice and 97 × 97: the larger comes first.
+const BY_SHARES_OF_97: Trial = Trial {
+    page: TWO_CELLS,
+    calls: &[
+        (Ask::Load(0), Seen::Loaded),
+        (Ask::Grant(3), Seen::Granted),
+        (Ask::Next(0, 2), Seen::Found(2)),
+        (Ask::Next(2, 2), Seen::Found(2)),
+        (Ask::Next(4, 2), Seen::Found(2)),
+        (Ask::Next(6, 2), Seen::Spent),
+    ],
+    places: b"111221..",
+};
+
 #[test]
-fn larger_is_better(rt: HostRuntime) -> Result<(), Fail> {
-    let mut places = [0; 8];
-    let mut rows = [
-        load(0),
-        grant(3),
-        next(0, 2),
-        next(2, 2),
-        next(4, 2),
-        next(6, 2),
-    ];
-    run(
-        rt.alloc(),
-        Anything,
-        Shares,
-        TWO_CELLS,
-        &mut places,
-        &mut rows,
-    )?;
-    found(&rt, &rows[2], &places[0..2], b"11");
-    found(&rt, &rows[3], &places[2..4], b"12");
-    found(&rt, &rows[4], &places[4..6], b"21");
-    answered(&rt, &rows[5], Answer::Next(Outcome::Spent));
-    assert_eq!(rt; places[6], 0, "spent writes nothing");
-    Ok(())
+fn larger_is_better(rt: HostRuntime) {
+    BY_SHARES_OF_97.check(&rt, rt.alloc(), Anything, Shares);
 }

@@ -6,13 +6,10 @@ ghost use Rattle.std.proofs.lemmas.Bool.{and_parts};
 ghost use Rattle.std.proofs.lemmas.List.{take-append-drop};
 ghost use Rattle.std.proofs.lemmas.List.Folds.{list_all-append};
 
-use crate::answers::*;
+use crate::answers::{Ask, Seen, Trial};
 use grammars::{Both, Grammar, Then};
-use reader::Outcome;
-use runs::{Answer, run};
 use scores::Sum;
 use std::alloc::{AllocError, Global};
-use std::test::Fail;
 
 // A grammar that admits the texts all of whose symbols are in its alphabet, and allows them as openings.
 #[derive(Drop)]
@@ -56,39 +53,30 @@ const DIGIT_AND_LETTER: &[u8; 19] = b"\x01\x02\x031\0\02\0\x013\0\x02\x02N\0\0S\
 
 // The first digit is to be 2 or 3, and no symbol 2. Of the six chains 1N at 0, 2N at 1, 3N at 2 and 3S at 3 are live, in this
 // order: 1S and 2S are not, as neither 1 nor 2 is an allowed opening. 3N and 3S are admitted.
+const COMBINED: Trial = Trial {
+    page: DIGIT_AND_LETTER,
+    calls: &[
+        (Ask::Load(0), Seen::Loaded),
+        (Ask::Grant(9), Seen::Granted),
+        (Ask::Next(0, 2), Seen::Found(2)),
+        (Ask::Report, Seen::Told(2, 9, 3, 1)),
+        (Ask::Next(2, 2), Seen::Found(2)),
+        (Ask::Report, Seen::Told(2, 9, 4, 2)),
+        (Ask::Next(0, 2), Seen::Exhausted),
+        (Ask::Report, Seen::Told(2, 9, 4, 2)),
+    ],
+    places: b"3N3S",
+};
+
 #[test]
-fn alphabets_combined(rt: HostRuntime) -> Result<(), Fail> {
+fn alphabets_combined(rt: HostRuntime) {
     let grammar = Both {
         one: Then {
             cut: 1,
-            head: Alphabet::new(rt.alloc(), b"23")?,
-            tail: Alphabet::new(rt.alloc(), b"NS")?,
+            head: Alphabet::new(rt.alloc(), b"23").expect(&rt, "memory"),
+            tail: Alphabet::new(rt.alloc(), b"NS").expect(&rt, "memory"),
         },
-        other: Alphabet::new(rt.alloc(), b"13NS")?,
+        other: Alphabet::new(rt.alloc(), b"13NS").expect(&rt, "memory"),
     };
-    let mut places = [0; 4];
-    let mut rows = [
-        load(0),
-        grant(9),
-        next(0, 2),
-        report(),
-        next(2, 2),
-        report(),
-        next(0, 2),
-        report(),
-    ];
-    run(
-        rt.alloc(),
-        grammar,
-        Sum,
-        DIGIT_AND_LETTER,
-        &mut places,
-        &mut rows,
-    )?;
-    found(&rt, &rows[2], &places[0..2], b"3N");
-    reported(&rt, &rows[3], 2, 9, 3, 1)?;
-    found(&rt, &rows[4], &places[2..4], b"3S");
-    reported(&rt, &rows[5], 2, 9, 4, 2)?;
-    answered(&rt, &rows[6], Answer::Next(Outcome::Exhausted));
-    reported(&rt, &rows[7], 2, 9, 4, 2)
+    COMBINED.check(&rt, rt.alloc(), grammar, Sum);
 }
