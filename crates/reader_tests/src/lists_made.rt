@@ -19,7 +19,11 @@ fn listed(rt: &impl Abort, heap: Global, page: &[u8], text: &[u8]) {
         panic!(rt; "no memory for a reader");
     };
     let mut place = [b'.'; 2048];
-    same(rt, list_dates(&mut reader, page, &mut place), Ok(text.len()));
+    same(
+        rt,
+        list_dates(&mut reader, page, &mut place),
+        Ok(text.len()),
+    );
     same(rt, place.starts_with(text), true);
     let rest = place.iter().skip(text.len());
     same(rt, rest.copied().all(|byte| byte == b'.'), true);
