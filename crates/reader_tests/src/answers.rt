@@ -1,5 +1,6 @@
 // Runs for the tests, and what they and a reader are held to. `rt` is handed to whatever asserts.
-// A test calls these and asserts little itself: an `assert_eq!` or a loop in its own body would be proved there anew.
+// A test calls these and asserts little itself: an `assert_eq!` or a loop in its own body would be
+// proved there anew.
 ghost use Rattle.reader.specs.Views.{Kept, Agrees};
 
 use grammars::Grammar;
@@ -81,7 +82,8 @@ pub(crate) enum Seen {
     Found(usize),
     Spent,
     Exhausted,
-    // Cells, granted, looked and handed of a report. The places in use are left out: the law only bounds those.
+    // Cells, granted, looked and handed of a report. The places in use are left out: the law only
+    // bounds those.
     Told(usize, usize, usize, usize),
 }
 
@@ -102,8 +104,8 @@ impl Seen {
     }
 }
 
-// A run on a page: its calls, what each is to come to, and what the lent places are to hold in the end. They hold full
-// stops before.
+// A run on a page: its calls, what each is to come to, and what the lent places are to hold in the
+// end. They hold full stops before.
 #[derive(Clone, Copy)]
 pub(crate) struct Trial {
     pub(crate) page: &'static [u8],

@@ -75,7 +75,8 @@ fn the_first_cell_decides(rt: HostRuntime) {
     FIRST_CELL_DECIDES.check(&rt, rt.alloc(), Anything, Sum);
 }
 
-// Four chains are granted, and the readings of the page are these four in this order, each with its total.
+// Four chains are granted, and the readings of the page are these four in this order, each with its
+// total.
 fn check_order<S: Score + Drop>(
     rt: &impl Abort,
     heap: Global,

@@ -13,7 +13,8 @@ const DEAR_CELL: &[u8; 9] = b"\x01\x01\x021\0\x632\0\x64";
 // One cell: 1 at 98 or 2 at 99.
 const CHEAP_CELL: &[u8; 9] = b"\x01\x01\x021\0\x622\0\x63";
 
-// Without a line grant, next and nothing else are refused, with 8 before all else, and nothing is written.
+// Without a line grant, next and nothing else are refused, with 8 before all else, and nothing is
+// written.
 const BEFORE_A_LOAD: Trial = Trial {
     page: DATE_PAGE,
     calls: &[
@@ -47,7 +48,8 @@ fn order_of_load(rt: HostRuntime) {
 }
 
 // A page cut short is refused as short, whatever line is asked for; the part is cut off at the bytes' end.
-// From byte 1 on there are ten lines, the first of one cell with `1` (49) alternatives: a count out of range.
+// From byte 1 on there are ten lines, the first of one cell with `1` (49) alternatives: a count out
+// of range.
 const SHORT_PAGES: Trial = Trial {
     page: TEN_CELLS,
     calls: &[

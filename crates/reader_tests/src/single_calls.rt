@@ -22,7 +22,8 @@ fn last_totals(rt: HostRuntime) {
     same(&rt, reader.last_total(), None);
 }
 
-// The line's bytes are those of DATE_PAGE behind its first, which counts one line; a byte of the place is left.
+// The line's bytes are those of DATE_PAGE behind its first, which counts one line. The last byte of
+// the place is left as it was.
 const LINE_AND_REST: &[u8] =
     b"\x08\x023\0\02\0\x05\x020\0\08\0\x02\x010\0\0\x012\0\0\x012\0\0\x010\0\0\x012\0\0\x023\0\04\0\x01.";
 
