@@ -25,8 +25,8 @@ const NORTHEAST: &str = "5100000N00200000W";
 
 const MEMORY: &str = "there is memory";
 
-// What was found is what was worked out by hand. A test calls this and those below, and asserts nothing itself, since each
-// `assert_eq!` in its own body would be proved there anew.
+// What was found is what was worked out by hand. A test calls this and those below, and asserts
+// nothing itself, since each `assert_eq!` in its own body would be proved there anew.
 fn same<T: Copy + Debug + PartialEq>(rt: &impl Abort, found: T, wanted: T) {
     assert_eq!(rt; found, wanted);
 }
@@ -51,6 +51,16 @@ fn check_played(rt: &impl Abort, heap: Global, setting: Setting, mut page: &[u8]
     check_lines(rt, heap, &mut play, setting, wanted);
 }
 
+const DATES_BY_SUM: Setting = Setting {
+    wanted: Wanted::Dates,
+    scoring: Scoring::Sum,
+};
+
+const DATES_BY_SHARES: Setting = Setting {
+    wanted: Wanted::Dates,
+    scoring: Scoring::Shares,
+};
+
 const ORDER_BY_SUM: &str =
     "load page 0: loaded\ngrant 5: granted\nnext: found 01012000\nnext: found 01012001\nnext: found 01022000\nnext: found 02012000\nnext: found 01022001\nreport: 8 cells, 5 granted, 5 looked at, 5 handed out, 2 places in use\n";
 
@@ -61,20 +71,11 @@ const ORDER_BY_SHARES: &str =
 // 02012000 comes to 55, less than the 60 of 01022001; but it keeps 45 of a hundred, and 01022001 keeps 70 twice, which is 49.
 #[test]
 fn scores_order_differently(rt: HostRuntime) {
-    let wanted = Wanted::Dates;
-    let scoring = Scoring::Sum;
+    check_played(&rt, rt.alloc(), DATES_BY_SUM, ORDER_PAGE, ORDER_BY_SUM);
     check_played(
         &rt,
         rt.alloc(),
-        Setting { wanted, scoring },
-        ORDER_PAGE,
-        ORDER_BY_SUM,
-    );
-    let scoring = Scoring::Shares;
-    check_played(
-        &rt,
-        rt.alloc(),
-        Setting { wanted, scoring },
+        DATES_BY_SHARES,
         ORDER_PAGE,
         ORDER_BY_SHARES,
     );
@@ -218,6 +219,8 @@ fn check_failed(rt: &impl Abort, play: &mut Play<'_>, kind: ErrorKind) {
     same(rt, error.kind(), kind);
 }
 
+const FIRST_FOUND: &str = "load page 0: loaded\ngrant 5: granted\nnext: found 01012000\n";
+
 // A read that failed is told with its error, and leaves nothing in the play: what is loaded next is the page alone.
 #[test]
 fn a_failed_read_leaves_the_play(rt: HostRuntime) {
@@ -227,11 +230,6 @@ fn a_failed_read_leaves_the_play(rt: HostRuntime) {
         .expect(&rt, "the page is read");
     play.grant("grant 5", 5).expect(&rt, MEMORY);
     play.next("next").expect(&rt, MEMORY);
-    check_lines(
-        &rt,
-        rt.alloc(),
-        &mut play,
-        setting_in(&rt, &[]),
-        "load page 0: loaded\ngrant 5: granted\nnext: found 01012000\n",
-    );
+    let setting = setting_in(&rt, &[]);
+    check_lines(&rt, rt.alloc(), &mut play, setting, FIRST_FOUND);
 }

@@ -39,8 +39,8 @@ const SPENT: &str =
 // The arguments for line 0.
 const FIRST: &[&str] = &["mark.page", "0", SOUTHWEST, NORTHEAST];
 
-// What was found is what was worked out by hand. A test calls this and those below, and asserts nothing itself, since each
-// `assert_eq!` in its own body would be proved there anew.
+// What was found is what was worked out by hand. A test calls this and those below, and asserts
+// nothing itself, since each `assert_eq!` in its own body would be proved there anew.
 fn same<T: Copy + Debug + PartialEq>(rt: &impl Abort, found: T, wanted: T) {
     assert_eq!(rt; found, wanted);
 }
@@ -113,7 +113,8 @@ fn a_line_is_spent_for_good(rt: HostRuntime) {
     check_told(&rt, rt.alloc(), &desk_for(&rt, rt.alloc(), WEST), SPENT);
 }
 
-// The arguments for the line behind the last, for a grant of nothing, and for one more than may be granted.
+// The arguments for the line behind the last, for a grant of nothing, and for a grant of one more
+// than may be granted.
 const BEHIND: &[&str] = &["mark.page", "1", SOUTHWEST, NORTHEAST];
 
 const NOTHING: &[&str] = &["mark.page", "0", SOUTHWEST, NORTHEAST, "0"];
