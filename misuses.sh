@@ -4,9 +4,9 @@
 cd "$(dirname "$0")" || exit 2
 copy=$(mktemp -d) || exit 2
 trap 'rm -rf "$copy"' EXIT
-mkdir "$copy/crates" && cp -r crates/positions crates/marks "$copy/crates" || exit 2
+mkdir "$copy/crates" && cp -r crates/placefault crates/positions crates/marks "$copy/crates" || exit 2
 rm -rf "$copy"/crates/*/out
-printf 'positions:\nmarks: positions\n' >"$copy/crates.txt"
+printf 'placefault:\npositions: placefault\nmarks: positions\n' >"$copy/crates.txt"
 lib=$copy/crates/marks/src/lib.rt
 cp "$lib" "$copy/lib.txt"
 status=0
