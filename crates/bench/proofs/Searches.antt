@@ -63,7 +63,7 @@ module _ {S : Type 0} (s : Meaning) (laws : Laws s) (g : Sets) (lawful : Lawful 
         let chain : ChainOf l seen.chain = (((ranked s laws g l).exactly_live seen.chain).0 (Contains-drop k (ranking s g.allows l) seen.chain ((h.frontier.holds seen.chain).0 seen.chosen.first.0).0)).0 in
         ap (λ r. take n r.text) seen.reads ∙ front (chains.text l seen.chain) _ n (text_long l seen.chain chain.long ∙ sym e)
 
-    look_agrees : k < granted → AgreesAt s g.allows l (k + 1) granted is
+    pub look_agrees : k < granted → AgreesAt s g.allows l (k + 1) granted is
     look_agrees lt =
         let best = chains_best_first s laws g lawful l well in
         let after = best.grows k (on_bench l was) seen.rest seen.chain h.frontier least (without_times seen.chain (on_bench l was) seen.rest h.frontier.once seen.chosen.others) in

@@ -62,7 +62,7 @@ module _ (t : Sheet) (s : List ℕ) where
         not_from_Decides ((entry t).admits s) (entry_true t s, entry_from t s) h,
       ))
 
-  true_of : TrueOf t s (kind_of t s)
+  pub true_of : TrueOf t s (kind_of t s)
   true_of =
       cond_both (admits_date s) Date (cond (is_angle axes.Latitude s) Latitude (cond (is_angle axes.Longitude s) Longitude (kind_read t s))) (TrueOf t s)
       (admitted_dated s).0

@@ -15,7 +15,7 @@ use Rattle.grammars.specs.Openings.{Judged, opened, closed}
 
 module _ (a : Axis) where
   -- the parts of an opening that is allowed
-  abbrev Open : List ℕ → Type 0
+  abbrev pub Open : List ℕ → Type 0
   Open s = Judged (width_of a) (figures_of a) (figures_of a + 1) s (opening_digits a s) (nat_le (degrees_of a s) (most_of a)) (nat_le (slice_index s (figures_of a)) 53) (is_angle a s)
 
   open_parts : (s : List ℕ) → allows_angle a s ≡ true → Open s

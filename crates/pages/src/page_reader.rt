@@ -99,12 +99,16 @@ pub fn line_of_page(bytes: &[u8], wanted: usize) -> Result<Option<Line>, PageFau
     ensures refused { Refused bytes.now }
     ensures first_wrong { IfErr result (FirstWrong bytes.now) }
 {
+    // By `next_line` and not by the iterator, which hands each item on by value: a line takes a thousand bytes, and on a page
+    // of short lines that takes longer than reading them.
+    let mut lines = PageLines::open(bytes)?;
     let mut found = None;
-    for (number, line) in PageLines::open(bytes)?.into_iter().enumerate() {
-        let line = line?;
+    let mut number = 0;
+    while let Some(line) = lines.next_line()? {
         if number == wanted {
             found = Some(line);
         }
+        number += 1;
     }
     Ok(found)
 }

@@ -65,7 +65,7 @@ digits_parts n s h = and_parts (digits (take n s)) (digits (drop n s)) (sym (lis
 pub digits_take : (n : ℕ) (s : List ℕ) → digits s ≡ true → digits (take n s) ≡ true
 digits_take n s h = (digits_parts n s h).0
 
-digits_drop : (n : ℕ) (s : List ℕ) → digits s ≡ true → digits (drop n s) ≡ true
+pub digits_drop : (n : ℕ) (s : List ℕ) → digits s ≡ true → digits (drop n s) ≡ true
 digits_drop n s h = (digits_parts n s h).1
 
 -- m symbols from place i on, of a text that is cut off behind them

@@ -111,7 +111,12 @@ impl Axis {
             return None;
         }
         let text = AngleText { axis: self, text };
-        text.has_form().then_some(text.angle())
+        // By `if`, so that the angle is worked out of such a text alone: `then_some` is given its value in any case.
+        if text.has_form() {
+            Some(text.angle())
+        } else {
+            None
+        }
     }
 
     // Whether the text is that of an angle in range.

@@ -35,11 +35,14 @@ pub fn read_position(text: &[u8]) -> Result<(i32, i32), Refusal>
     ensures answer { result ≡ reading text.now }
     ensures said { MatchResult result (λ p. Says text.now p.0 p.1) (λ _. (y x : ℤ) → Says text.now y x → ⊥) }
 {
-    let (latitude, longitude) = text.split_at_checked(8).ok_or(Refusal::Position)?;
-    Axis::Latitude
-        .read(latitude)
-        .zip(Axis::Longitude.read(longitude))
-        .ok_or(Refusal::Position)
+    // The length first, and the longitude only behind a latitude: a text that is refused is read no further.
+    if text.len() != 17 {
+        return Err(Refusal::Position);
+    }
+    let (latitude, longitude) = text.split_at(8);
+    let latitude = Axis::Latitude.read(latitude).ok_or(Refusal::Position)?;
+    let longitude = Axis::Longitude.read(longitude).ok_or(Refusal::Position)?;
+    Ok((latitude, longitude))
 }
 
 // Both angles are in range.

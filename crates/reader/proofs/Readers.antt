@@ -91,7 +91,7 @@ from_page s page n accepted = go (read_page page) refl
 -- What a next comes to that finds no reading: spent, or exhausted where no live chain is left, and by then the search has looked
 -- at as many chains as were granted, or all.
 module _ (s : Meaning) (g : Sets) (v : View) (l : Cells) (line : v.line ≡ Some l) (place : List ℕ) where
-  next_long : length l ≤ length place
+  pub next_long : length l ≤ length place
       → next_on s g v place v.line ≡ next_came s l v place (length (ranking s g.allows l)) (first_passing (admitted g l) (due s g l v.looked v.granted))
   next_long h = ap (next_on s g v place) line ∙ cond-false (ltb (length place) (length l)) (refuse_next v place refusal.Place) _ (le-ltb (length place) (length l) h)
 

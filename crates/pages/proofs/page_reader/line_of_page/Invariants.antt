@@ -1,7 +1,10 @@
-use Rattle.std.specs.Iterator.Adapters.{enumerate_source, enumerate_count}
+use Rattle.std.proofs.Common.{◌+◌, ◌-◌, ◌≤◌, length, Some}
 use Rattle.pages.specs.Answers.{answers_left}
 use Rattle.pages.proofs.Paging.{Keeping}
 use Rattle.pages.proofs.page_reader.line_of_page.Given as goal
 
-abbrev pub invariant-loop-number : goal.invariant-loop-number
-invariant-loop-number l = Keeping l.bytes l.wanted (enumerate_count l.number-iterator) (answers_left (enumerate_source l.number-iterator).left) l.found
+abbrev pub invariant-loop-line : goal.invariant-loop-line
+invariant-loop-line l = Keeping l.bytes l.wanted l.number (answers_left (Some l.lines)) l.found × (l.number + length (answers_left (Some l.lines)) ≤ 41)
+
+abbrev pub decreases-loop-line : goal.decreases-loop-line
+decreases-loop-line l = l.lines.count - l.lines.number
